@@ -1,0 +1,14 @@
+//! The difference algebra: lists, the differences between two of them, and what a difference gives.
+#![tactic(auto)]
+
+mod algebra;
+mod differences;
+mod lists;
+mod testing;
+#[cfg(test)]
+mod tests;
+
+pub use algebra::{apply, is_lawful};
+pub use differences::{Diffs, VecDiff};
+pub use lists::{Items, Name, NoMemory, Text};
+pub use testing::Tester;

@@ -1,0 +1,5 @@
+pub mod Codes
+pub mod Lengths
+pub mod Places
+pub mod States
+pub mod Steps

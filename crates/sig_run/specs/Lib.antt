@@ -1,0 +1,10 @@
+pub mod Edits
+pub mod Histories
+pub mod Filtering
+pub mod Flow
+pub mod Script
+pub mod Playing
+pub mod Watching
+pub mod Stages
+pub mod Text
+pub mod Program

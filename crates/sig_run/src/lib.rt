@@ -1,0 +1,18 @@
+//! The program below its `main`: the words of the command line, playing a script, and the report.
+#![tactic(auto)]
+
+mod filtering;
+mod gate;
+mod playing;
+mod program;
+mod report;
+mod sources;
+#[cfg(test)]
+mod tests;
+mod text;
+mod views;
+mod words;
+
+pub use gate::{Gate, Open};
+pub use program::signals;
+pub use words::Words;

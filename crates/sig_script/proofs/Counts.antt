@@ -1,0 +1,25 @@
+-- A list and an object of the document beside the values and the fields that they stand for.
+use Rattle.std.proofs.Common.{◌≡◌, ◌≢◌, List, [], ◌∷◌, suc, length, None, refl, ap, ◌∙◌, add-one}
+use Rattle.serde_json.proofs.Views.{Entry}
+use Rattle.serde_json.specs.View.{items_view, members_view}
+use Rattle.serde_json.specs.declared.value.Value.{Value}
+use Rattle.sig_script.specs.Document.{only_item, item_at_most}
+use Rattle.sig_script.specs.Fields.{item_count, field_count}
+
+pub item_count_seen : (values : List Value) → item_count (items_view values) ≡ length values
+item_count_seen [] = refl
+item_count_seen (value ∷ values) = add-one _ ∙ ap suc (item_count_seen values)
+
+pub field_count_seen : (fields : List Entry) → field_count (members_view fields) ≡ length fields
+field_count_seen [] = refl
+field_count_seen (field ∷ fields) = add-one _ ∙ ap suc (field_count_seen fields)
+
+pub only_item_none : (values : List Value) → length values ≢ 1 → only_item (items_view values) ≡ None
+only_item_none [] other = refl
+only_item_none (value ∷ []) other = absurd (other refl)
+only_item_none (value ∷ another ∷ values) other = refl
+
+pub item_at_most_none : (values : List Value) → length values ≢ 0 → length values ≢ 1 → item_at_most (items_view values) ≡ None
+item_at_most_none [] some other = absurd (some refl)
+item_at_most_none (value ∷ []) some other = absurd (other refl)
+item_at_most_none (value ∷ another ∷ values) some other = refl

@@ -1,0 +1,3 @@
+pub mod Fields
+pub mod Document
+pub mod Script

@@ -1,0 +1,103 @@
+ghost use Rattle.std.specs.Prelude.{◌≡◌, option_map, nat_le};
+ghost use Rattle.std.specs.List.{list_all};
+ghost use Rattle.serde_json.specs.View.{view, items_view, members_view};
+ghost use Rattle.serde_json.specs.Find.{as_array, get_member};
+ghost use Rattle.sig_script.specs.Fields.{number_of, index_of, is_name_byte, is_name, item_count, field_count, only_field, two_fields};
+
+use serde_json::{Map, Value};
+
+/// A number that fits an `i64`.
+pub fn number_of(value: &Value) -> Option<i64>
+    ensures { result ≡ number_of (view value.now) }
+{
+    value.as_i64()
+}
+
+/// A number from 0 to the largest `u32`.
+pub fn index_of(value: &Value) -> Option<u32>
+    ensures { result ≡ index_of (view value.now) }
+{
+    match value.as_u64() {
+        Some(index) if index <= u64::from(u32::MAX) => Some(index as u32),
+        _ => None,
+    }
+}
+
+fn is_name_byte(byte: u8) -> bool
+    ensures { result ≡ is_name_byte byte }
+{
+    byte.is_ascii_lowercase() || byte.is_ascii_digit() || byte == b'_'
+}
+
+fn are_name_bytes(text: &[u8]) -> bool
+    ensures { result ≡ list_all is_name_byte text.now }
+{
+    text.iter().all(|&byte| is_name_byte(byte))
+}
+
+/// Whether a text is a name: 1 to 16 bytes, a lower-case letter and then lower-case letters, digits and
+/// `_`.
+pub fn is_name(text: &[u8]) -> bool
+    ensures { result ≡ is_name text.now }
+{
+    match text.split_first() {
+        Some((first, rest)) => {
+            first.is_ascii_lowercase() && are_name_bytes(rest) && rest.len() < 16
+        }
+        None => false,
+    }
+}
+
+/// The value of a field.
+pub fn field<'v>(fields: &'v Map<String, Value>, name: &str) -> Option<&'v Value>
+    ensures { option_map (λ found. view found.now) result
+        ≡ get_member name.now (members_view fields.now.entries) }
+{
+    fields.get(name)
+}
+
+/// How many fields there are.
+#[tactic(auto, using(crate::proofs::Counts::field_count_seen))]
+pub fn field_count(fields: &Map<String, Value>) -> usize
+    ensures { result ≡ field_count (members_view fields.now.entries) }
+{
+    fields.len()
+}
+
+/// The value of the one field of an object that has no other.
+pub fn only_field<'v>(value: &'v Value, name: &str) -> Option<&'v Value>
+    ensures { option_map (λ found. view found.now) result ≡ only_field name.now (view value.now) }
+{
+    let fields = value.as_object()?;
+    if field_count(fields) != 1 {
+        return None;
+    }
+    field(fields, name)
+}
+
+/// The values of the two fields of an object that has no others.
+pub fn two_fields<'v>(value: &'v Value, first: &str, second: &str) -> Option<(&'v Value, &'v Value)>
+    ensures { option_map (λ found. (view found.0.now, view found.1.now)) result
+        ≡ two_fields first.now second.now (view value.now) }
+{
+    let fields = value.as_object()?;
+    if field_count(fields) != 2 {
+        return None;
+    }
+    Some((field(fields, first)?, field(fields, second)?))
+}
+
+/// Whether a list has at most so many values.
+#[tactic(auto, using(crate::proofs::Counts::item_count_seen))]
+pub fn is_within(values: &[Value], most: usize) -> bool
+    ensures { result ≡ nat_le (item_count (items_view values.now)) most }
+{
+    values.len() <= most
+}
+
+/// The values of a list.
+pub fn list_of(value: &Value) -> Option<&[Value]>
+    ensures { option_map (λ found. items_view found.now) result ≡ as_array (view value.now) }
+{
+    Some(value.as_array()?.as_slice())
+}
