@@ -3,3 +3,9 @@ pub mod Lengths
 pub mod Places
 pub mod States
 pub mod Steps
+pub mod Turns
+pub mod Whole
+pub mod RowSteps
+pub mod Fronts
+pub mod Seen
+pub mod Plays

@@ -8,3 +8,6 @@ pub mod Watching
 pub mod Stages
 pub mod Text
 pub mod Program
+pub mod Replay
+pub mod Rows
+pub mod Lawful

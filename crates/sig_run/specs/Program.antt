@@ -4,10 +4,12 @@ use Rattle.std.specs.Io.KnownBytes.{Appends, IsAtEnd}
 use Rattle.sig_io.specs.Transfer.{AppendsPrefix}
 use Rattle.sig_script.specs.Script.{Says, SaysNone, IsNotJson}
 use Rattle.sig_script.specs.declared.script.FirstScript.{FirstScript}
+use Rattle.sig_run.specs.Lawful.{Lawful}
 use Rattle.sig_run.specs.Playing.{play}
 use Rattle.sig_run.specs.Text.{report_text}
+use Rattle.sig_run.specs.declared.report.Report.{Report}
 use Rattle.sig_run.specs.declared.program.Answer.{Answer}
-use Rattle.sig_run.specs.declared.program.Answer.TheVariants.{Report, Refusal}
+use Rattle.sig_run.specs.declared.program.Answer.TheVariants.{Report as Reports, Refusal}
 use Rattle.sig_run.specs.declared.program.Status.{Status}
 use Rattle.sig_run.specs.declared.program.Status.TheVariants.{Done, Usage, ReadFault, WriteFault, Script, Memory, TooLarge}
 
@@ -23,11 +25,18 @@ code_of TooLarge = 6
 
 -- ---- what is written for the bytes of an input
 
--- the bytes say a script, and the text is the report of its play
+-- the text is that of a report which is lawful for the script, and is the one of its play
+pub record IsReportOf (script : FirstScript) (text : List ℕ) : Type 0 where
+  pub report : Report
+  pub lawful : Lawful script report
+  pub played : report ≡ play script
+  pub is_text : text ≡ report_text script report
+
+-- the bytes say a script, and the text is that of its report
 pub record IsReport (bytes text : List ℕ) : Type 0 where
   pub script : FirstScript
   pub says : Says bytes script
-  pub report : text ≡ report_text script (play script)
+  pub reports : IsReportOf script text
 
 -- the line of a refusal by its number, with its path where that isn't empty
 abbrev pub refusal_line : ℕ → List ℕ → List ℕ
@@ -70,7 +79,7 @@ pub record WritesPrefix (IsText : List ℕ → List ℕ → Type 0) (left left_n
 -- ---- the code's answers
 
 abbrev pub Answers : List ℕ → Answer → Type 0
-Answers bytes (Report text) = IsReport bytes text.items
+Answers bytes (Reports text) = IsReport bytes text.items
 Answers bytes (Refusal line) = IsRefusal bytes line.items
 
 -- with these nothing is written

@@ -21,5 +21,5 @@ pub record KeepsRows (old new : ViewState) : Type 0 where
   pub watched : watched_of new ≡ watched_of old
 
 -- where the view has moved its content is the vector's, and else it is as before
-abbrev pub IsAtEnd : SourceState → ViewState → ViewState → Type 0
-IsAtEnd source old new = (new.content ≡ source.content) × (new.position ≡ length source.history) ⊎ (new.content ≡ old.content) × (new.position ≡ old.position)
+abbrev pub MovesToEnd : SourceState → ViewState → ViewState → Type 0
+MovesToEnd source old new = (new.content ≡ source.content) × (new.position ≡ length source.history) ⊎ (new.content ≡ old.content) × (new.position ≡ old.position)

@@ -3,9 +3,7 @@ ghost use Rattle.std.specs.Io.KnownBytes.{Appends, Keeps};
 ghost use Rattle.sig_io.specs.Causes.{Rose};
 ghost use Rattle.sig_io.specs.Transfer.{Takes, AppendsPrefix};
 ghost use Rattle.sig_script.specs.Script.{KeepsLimits};
-ghost use Rattle.sig_run.specs.Playing.{play};
-ghost use Rattle.sig_run.specs.Program.{refusal_line, IsReport, IsRefusal, IsAnswer, Answers, IsSilent, WritesAll, WritesPrefix};
-ghost use Rattle.sig_run.specs.Text.{report_text};
+ghost use Rattle.sig_run.specs.Program.{refusal_line, IsReportOf, IsReport, IsRefusal, IsAnswer, Answers, IsSilent, WritesAll, WritesPrefix};
 
 use crate::gate::Gate;
 use crate::playing::play;
@@ -159,9 +157,10 @@ fn answer_to(alloc: Global, bytes: &[u8]) -> Result<Answer, NoMemory>
 }
 
 /// The text of the report of a script's play.
+#[tactic(auto, using(crate::proofs::Plays::reports_of_play))]
 fn played(alloc: Global, script: &FirstScript) -> Result<Vec<u8>, NoMemory>
     requires { KeepsLimits script.now }
-    ensures { IfOk result (λ text. text.items ≡ report_text script.now (play script.now)) }
+    ensures { IfOk result (λ text. IsReportOf script.now text.items) }
 {
     let report = play(alloc, script)?;
     report_text(alloc, script, &report)

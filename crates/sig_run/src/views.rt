@@ -1,10 +1,10 @@
 ghost use Rattle.std.specs.Prelude.{◌≡◌, ◌≤◌, [], ◌∷◌, ◌++◌, length, drop, IfOk, OnOk, true, false};
-ghost use Rattle.sig_run.specs.Filtering.{filter_gives};
 ghost use Rattle.std.specs.Option.{option_to_list};
 ghost use Rattle.sig_diff.specs.Differences.{applied};
 ghost use Rattle.sig_run.specs.Edits.{takes_effect};
-ghost use Rattle.sig_run.specs.Histories.{logged_by, state};
+ghost use Rattle.sig_run.specs.Filtering.{filter_gives};
 ghost use Rattle.sig_run.specs.Flow.{is_at_least, through};
+ghost use Rattle.sig_run.specs.Histories.{logged_by, state};
 
 use crate::filtering::{filtered, passing};
 use crate::report::{Body, Row, Rows};
@@ -48,7 +48,7 @@ pub struct ViewState {
 
 impl ViewState {
     ghost use Rattle.sig_run.specs.Playing.{first_body, next_body, polled_by};
-    ghost use Rattle.sig_run.specs.Watching.{watched_of, Follows, KeepsRows, IsAtEnd};
+    ghost use Rattle.sig_run.specs.Watching.{watched_of, Follows, KeepsRows, MovesToEnd};
 
     /// The view before its first row, at the start of the vector.
     pub fn new(
@@ -87,7 +87,7 @@ impl ViewState {
         ensures polled { OnOk result (watched_of self.new
             ≡ polled_by (is_at_least self.old.test.least) self.old.content source.now.content
             self.old.cap source.now.history is_closed (watched_of self.old)) }
-        ensures content { OnOk result (IsAtEnd source.now self.old self.new) }
+        ensures content { OnOk result (MovesToEnd source.now self.old self.new) }
     {
         let count = source.count();
         if self.is_ended {
