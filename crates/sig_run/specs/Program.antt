@@ -1,7 +1,6 @@
 -- How a run of the program ends: its status, what it read, and what it wrote.
 use Rattle.std.specs.Prelude.{◌≡◌, ℕ, ◌⊎◌, ◌≤◌, List, [], ◌∷◌, ◌++◌, length, codes, decimal, Option, IfSome}
-use Rattle.std.specs.Io.KnownBytes.{Appends, IsAtEnd}
-use Rattle.sig_io.specs.Transfer.{AppendsPrefix}
+use Rattle.std.specs.Io.KnownBytes.{IsAtEnd}
 use Rattle.sig_script.specs.Script.{Says, SaysNone, IsNotJson}
 use Rattle.sig_script.specs.declared.script.FirstScript.{FirstScript}
 use Rattle.sig_run.specs.Lawful.{Lawful}
@@ -60,21 +59,13 @@ pub record HasRead (before now : Option (List ℕ)) (bytes : List ℕ) : Type 0 
   pub end : IsAtEnd now
   pub within : length bytes ≤ 16777216
 
--- the whole input was read, and a text for it was written
-pub record WritesAll (IsText : List ℕ → List ℕ → Type 0) (left left_now written written_now : Option (List ℕ)) : Type 0 where
+-- the whole input was read, and a text for its bytes went to the output as Writes says
+pub record Answered (IsText : List ℕ → List ℕ → Type 0) (before now : Option (List ℕ)) (Writes : List ℕ → Type 0) : Type 0 where
   pub bytes : List ℕ
   pub text : List ℕ
-  pub read : HasRead left left_now bytes
+  pub read : HasRead before now bytes
   pub is_text : IsText bytes text
-  pub writes : Appends written written_now text
-
--- the whole input was read, and a prefix of a text for it was written
-pub record WritesPrefix (IsText : List ℕ → List ℕ → Type 0) (left left_now written written_now : Option (List ℕ)) : Type 0 where
-  pub bytes : List ℕ
-  pub text : List ℕ
-  pub read : HasRead left left_now bytes
-  pub is_text : IsText bytes text
-  pub writes : AppendsPrefix written written_now text
+  pub writes : Writes text
 
 -- ---- the code's answers
 

@@ -3,7 +3,7 @@ ghost use Rattle.std.specs.Io.KnownBytes.{Appends, Keeps};
 ghost use Rattle.sig_io.specs.Causes.{Rose};
 ghost use Rattle.sig_io.specs.Transfer.{Takes, AppendsPrefix};
 ghost use Rattle.sig_script.specs.Script.{KeepsLimits};
-ghost use Rattle.sig_run.specs.Program.{refusal_line, IsReportOf, IsReport, IsRefusal, IsAnswer, Answers, IsSilent, WritesAll, WritesPrefix};
+ghost use Rattle.sig_run.specs.Program.{refusal_line, IsReportOf, IsReport, IsRefusal, IsAnswer, Answers, IsSilent, Answered};
 
 use crate::gate::Gate;
 use crate::playing::play;
@@ -73,16 +73,16 @@ where
     ensures usage { result ≡ 1 → words.now ≢ codes "play" ∷ [] }
     ensures accepted { result ≢ 1 → words.now ≡ codes "play" ∷ [] }
 
-    ensures done { result ≡ 0 → WritesAll IsReport
-        (S.left input.old) (S.left input.new) (K.written output.old) (K.written output.new) }
-    ensures script { result ≡ 4 → WritesAll IsRefusal
-        (S.left input.old) (S.left input.new) (K.written output.old) (K.written output.new) }
+    ensures done { result ≡ 0 → Answered IsReport (S.left input.old) (S.left input.new)
+        (Appends (K.written output.old) (K.written output.new)) }
+    ensures script { result ≡ 4 → Answered IsRefusal (S.left input.old) (S.left input.new)
+        (Appends (K.written output.old) (K.written output.new)) }
 
     // A fault is answered only where it was counted in this call.
     ensures read_fault { result ≡ 2 → Rose (S.faults input.old) (S.faults input.new) }
     ensures write_fault { result ≡ 3 → Rose (K.faults output.old) (K.faults output.new)
-        × WritesPrefix IsAnswer
-        (S.left input.old) (S.left input.new) (K.written output.old) (K.written output.new) }
+        × Answered IsAnswer (S.left input.old) (S.left input.new)
+        (AppendsPrefix (K.written output.old) (K.written output.new)) }
     ensures too_large { result ≡ 6 → (S.faults input.new ≡ S.faults input.old)
         × Takes (S.left input.old) (S.left input.new) (λ count. count ≡ 16777217) }
 
@@ -102,15 +102,16 @@ where
 /// Plays the script that the input holds, and writes the report or the line of a refusal.
 fn play_input<S: Source, K: Sink>(alloc: Global, input: &mut S, output: &mut K) -> Status
     ensures accepted { result ≢ Status.Usage }
-    ensures done { result ≡ Status.Done → WritesAll IsReport
-        (S.left input.old) (S.left input.new) (K.written output.old) (K.written output.new) }
-    ensures script { result ≡ Status.Script → WritesAll IsRefusal
-        (S.left input.old) (S.left input.new) (K.written output.old) (K.written output.new) }
+    ensures done { result ≡ Status.Done → Answered IsReport (S.left input.old) (S.left input.new)
+        (Appends (K.written output.old) (K.written output.new)) }
+    ensures script { result ≡ Status.Script → Answered IsRefusal (S.left input.old) (S.left input.new)
+        (Appends (K.written output.old) (K.written output.new)) }
     ensures read_fault { result ≡ Status.ReadFault
         → Rose (S.faults input.old) (S.faults input.new) }
     ensures write_fault { result ≡ Status.WriteFault
-        → Rose (K.faults output.old) (K.faults output.new) × WritesPrefix IsAnswer
-        (S.left input.old) (S.left input.new) (K.written output.old) (K.written output.new) }
+        → Rose (K.faults output.old) (K.faults output.new)
+        × Answered IsAnswer (S.left input.old) (S.left input.new)
+        (AppendsPrefix (K.written output.old) (K.written output.new)) }
     ensures too_large { result ≡ Status.TooLarge → (S.faults input.new ≡ S.faults input.old)
         × Takes (S.left input.old) (S.left input.new) (λ count. count ≡ 16777217) }
     ensures silent { IsSilent result → Keeps (K.written output.old) (K.written output.new) }

@@ -5,4 +5,4 @@ use Rattle.sig_run.proofs.views.follow_one.Goals as goal
 
 pub apply-requires-clause-short : goal.apply-requires-clause-short
 apply-requires-clause-short c =
-    let within : length (applied c.args.content.now c.args.diff.now) ≤ c.args.cap = applied_within _ _ _ c.requires.effect c.requires.within in omega arith
+    let within : length (applied c.args.content.now c.args.diff.now) ≤ c.args.cap = applied_within c.args.content.now c.args.diff.now c.args.cap c.requires.effect c.requires.within in omega arith
