@@ -15,7 +15,7 @@ use Rattle.sig_run.specs.Playing.{Played, written, written_out}
 use Rattle.sig_run.specs.Watching.{Follows}
 use Rattle.sig_run.specs.Stages.{IsInStep, played_of, is_done}
 use Rattle.sig_run.specs.Script.{edits_in, edit_from, all_edits, cap_of}
-use Rattle.sig_run.proofs.States.{state_append, state_split, is_closed_append, next_is_edit, next_is_leave, next_is_some, next_is_none, drop_at, nothing_left}
+use Rattle.sig_run.proofs.States.{state_append, state_split, is_closed_append, next_is_edit, next_is_leave, next_is_some, next_is_none, drop_at}
 
 pub follows : (script : FirstScript) (stage : Stage) → IsInStep script stage → Follows stage.source stage.view
 follows script stage step = record {
@@ -66,9 +66,6 @@ pub rest_next : (script : FirstScript) (p : Played) → is_done (length (edits_i
 rest_next script p open_ =
     let next = next_is_some (edits_in script) (length p.history) open_ in
     (rw (next.1, drop_at (all_edits (edits_in script)) (length p.history) next.0 next.1, length-append, add-one) refl, rw (next.1, length-append) refl)
-
-pub rest_none : (script : FirstScript) (p : Played) → is_done (length (edits_in script)) (length p.history) ≡ true → written_out script p ≡ p
-rest_none script p done = rw (nothing_left (edits_in script) (length p.history) done) refl
 
 -- a writer that is done makes no further entry
 pub written_none : (script : FirstScript) (p : Played) → is_done (length (edits_in script)) (length p.history) ≡ true → p ≡ written script p

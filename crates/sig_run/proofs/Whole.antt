@@ -1,7 +1,6 @@
 -- The whole history of a script's vector: all that its writer does, with the replies.
-use Rattle.std.proofs.Common.{◌≡◌, ◌∙◌, ℕ, zero, suc, ◌+◌, ℤ, List, [], ◌∷◌, ◌++◌, length, map, take, drop, ap, sym, refl, append_assoc, arith}
+use Rattle.std.proofs.Common.{◌≡◌, ◌∙◌, ℕ, zero, suc, ◌+◌, ℤ, List, [], ◌∷◌, ◌++◌, length, map, drop, ap, sym, refl, append_assoc, arith}
 use Rattle.std.proofs.lemmas.List.{append-nil, length-append, map-append}
-use Rattle.std.proofs.Math.Seq.{take-append_seam}
 use Rattle.sig_script.specs.declared.script.FirstScript.{FirstScript}
 use Rattle.sig_script.specs.declared.script.FirstEdit.{FirstEdit}
 use Rattle.sig_script.specs.declared.script.FirstEdit.TheVariants.{Push, Remove}
@@ -48,9 +47,6 @@ goes_on script entries [] = ([], sym (append-nil entries))
 goes_on script entries (edit ∷ edits) =
     let rest = goes_on script (appended script entries edit) edits in
     (entry_after script entries edit ∷ rest.0, rest.1 ∙ append_assoc entries (entry_after script entries edit ∷ []) rest.0)
-
-pub front_all : (script : FirstScript) (entries : List Entry) (edits : List Edit) → take (length entries) (all_appended script entries edits) ≡ entries
-front_all script entries edits = let rest = goes_on script entries edits in rw rest.1 (take-append_seam entries rest.0)
 
 pub length_all : (script : FirstScript) (entries : List Entry) (edits : List Edit) → length (all_appended script entries edits) ≡ length entries + length edits
 length_all script entries [] = omega arith
