@@ -1,5 +1,5 @@
 -- The difference algebra over lists: which differences a list takes, and the list after one.
-use Rattle.std.specs.Prelude.{ℕ, Bool, true, nat_lt, nat_le, ◌&&◌, IsTrue, ◌-◌, ◌<◌, ◌≤◌, List, [], ◌∷◌, ◌++◌, length, take, insert, remove, slice_get, slice_set, Option, None, Some}
+use Rattle.std.specs.Prelude.{ℕ, Bool, true, nat_lt, nat_le, ◌&&◌, IsTrue, ◌-◌, List, [], ◌∷◌, ◌++◌, length, take, insert, remove, slice_get, slice_set, Option, None, Some}
 use Rattle.sig_diff.specs.declared.differences.VecDiff.{VecDiff}
 use Rattle.sig_diff.specs.declared.differences.VecDiff.TheVariants.{Replace, InsertAt, UpdateAt, RemoveAt, Move, Push, Pop, Clear}
 

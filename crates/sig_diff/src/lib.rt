@@ -3,12 +3,16 @@
 
 mod algebra;
 mod differences;
+mod entries;
 mod lists;
+mod map_differences;
 mod testing;
 #[cfg(test)]
 mod tests;
 
 pub use algebra::{apply, is_lawful};
 pub use differences::{Diffs, VecDiff};
+pub use entries::Entries;
 pub use lists::{Items, Name, NoMemory, Text};
+pub use map_differences::MapDiff;
 pub use testing::Tester;
