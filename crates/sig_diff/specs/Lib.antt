@@ -6,3 +6,4 @@ pub mod Passing
 pub mod Sorting
 pub mod Blocks
 pub mod Numbers
+pub mod Contents

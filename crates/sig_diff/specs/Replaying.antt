@@ -5,6 +5,8 @@ use Rattle.std.specs.List.{fold}
 use Rattle.std.specs.Option.{option_map}
 use Rattle.sig_diff.specs.declared.differences.VecDiff.{VecDiff}
 use Rattle.sig_diff.specs.declared.map_differences.MapDiff.{MapDiff}
+use Rattle.sig_diff.specs.declared.replaying.ReplayError.{ReplayError}
+use Rattle.sig_diff.specs.declared.replaying.ReplayError.TheVariants.{Unlawful, NoMemory}
 use Rattle.sig_diff.specs.Differences.{is_lawful, applied}
 use Rattle.sig_diff.specs.MapDifferences.{map_is_lawful, map_applied}
 
@@ -25,6 +27,11 @@ module _ {Content Diff : Type 0} (takes : Diff → Content → Bool) (after : Co
       pub before : AreTaken content (take place diffs)
       pub refused : option_map (λ diff. takes diff (fold after content (take place diffs))) (slice_get diffs place) ≡ Some false
       pub there : size (fold after content (take place diffs)) ≡ len
+
+-- what a refusal says: nothing for want of memory, else the first difference that isn't taken, and how large the content there is
+abbrev pub IsUnlawfulAt : {Content Diff : Type 0} → (Diff → Content → Bool) → (Content → Diff → Content) → (Content → ℕ) → Content → List Diff → ReplayError → Type 0
+IsUnlawfulAt takes after size content diffs (Unlawful at len) = IsFirstRefused takes after size content diffs at len
+IsUnlawfulAt takes after size content diffs NoMemory = Unit {0}
 
 -- ---- lists
 

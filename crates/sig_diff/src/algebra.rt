@@ -39,7 +39,9 @@ pub fn apply<T: Copy + Eq>(list: &mut Items<T>, diff: &VecDiff<T>) -> Result<(),
             new_index,
         } => list.shift(*old_index as usize, *new_index as usize),
         VecDiff::Push { value } => list.push(*value)?,
-        VecDiff::Pop => list.pop(),
+        VecDiff::Pop => {
+            list.pop();
+        }
         VecDiff::Clear => list.clear(),
     }
     Ok(())

@@ -1,8 +1,5 @@
-ghost use Rattle.std.specs.Prelude.{◌≡◌, [], ◌∷◌, ◌++◌, ◌↔◌, length, IsTrue, IfOk, OnOk, OnErr};
-
+use crate::copying::TryCopy;
 use crate::lists::{Items, NoMemory};
-use std::alloc::Global;
-use std::marker::Model;
 
 /// One difference between two lists. Indexes count from 0.
 #[derive(Debug, Drop)]
@@ -25,10 +22,8 @@ pub enum VecDiff<T> {
     Clear,
 }
 
-impl<T: Copy> VecDiff<T> {
-    pub fn copy(&self) -> Result<VecDiff<T>, NoMemory>
-        ensures { IfOk result (λ copy. copy ≡ self.now) }
-    {
+impl<T: Copy> TryCopy for VecDiff<T> {
+    fn copy(&self) -> Result<Self, NoMemory> {
         Ok(match self {
             VecDiff::Replace { values } => VecDiff::Replace {
                 values: values.copy()?,
@@ -56,69 +51,5 @@ impl<T: Copy> VecDiff<T> {
     }
 }
 
-/// A list of differences, to be applied one after another.
-#[derive(Debug, Drop)]
-pub struct Diffs<T> {
-    diffs: Vec<VecDiff<T>>,
-}
-
-impl<T> Model for Diffs<T> {
-    ghost use Rattle.std.specs.Prelude.{List};
-    ghost use Rattle.sig_diff.specs.declared.differences.VecDiff.{VecDiff};
-
-    ghost Value = { List (VecDiff T) };
-
-    ghost view = { λ list. list.diffs.items };
-}
-
-impl<T> Diffs<T> {
-    /// The empty list. It takes no memory.
-    pub fn new(alloc: Global) -> Diffs<T>
-        ensures { result ≡ [] }
-    {
-        Diffs {
-            diffs: Vec::new(alloc),
-        }
-    }
-
-    pub fn as_slice(&self) -> &[VecDiff<T>]
-        ensures { result.now ≡ self.now }
-    {
-        self.diffs.as_slice()
-    }
-
-    pub fn len(&self) -> usize
-        ensures { result ≡ length self.now }
-    {
-        self.diffs.len()
-    }
-
-    pub fn is_empty(&self) -> bool
-        ensures { IsTrue result ↔ (self.now ≡ []) }
-    {
-        self.diffs.is_empty()
-    }
-}
-
-impl<T: Drop> Diffs<T> {
-    /// Puts a difference at the end. After a refusal the list is as it was.
-    pub fn push(&mut self, diff: VecDiff<T>) -> Result<(), NoMemory>
-        ensures ok { OnOk result (self.new ≡ self.old ++ diff ∷ []) }
-        ensures err { OnErr result (self.new ≡ self.old) }
-    {
-        self.diffs.push(diff)?;
-        Ok(())
-    }
-}
-
-impl<T: Copy> Diffs<T> {
-    pub fn copy(&self) -> Result<Diffs<T>, NoMemory>
-        ensures { IfOk result (λ copy. copy ≡ self.now) }
-    {
-        let mut copies = Vec::new(*self.diffs.allocator());
-        'copies: for diff in &self.diffs {
-            copies.push(diff.copy()?)?;
-        }
-        Ok(Diffs { diffs: copies })
-    }
-}
+/// Differences to be applied one after another.
+pub type Diffs<T> = Items<VecDiff<T>>;

@@ -51,3 +51,13 @@ impl<V> Entries<V> {
         self.entries.is_empty()
     }
 }
+
+impl<V: Copy> Entries<V> {
+    pub fn copy(&self) -> Result<Entries<V>, NoMemory>
+        ensures { IfOk result (λ copy. copy ≡ self.now) }
+    {
+        let alloc = *self.entries.allocator();
+        let entries = Vec::from_slice(alloc, self.entries.as_slice())?;
+        Ok(Entries { entries })
+    }
+}

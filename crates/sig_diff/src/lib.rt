@@ -2,17 +2,23 @@
 #![tactic(auto)]
 
 mod algebra;
+mod contents;
+mod copying;
 mod differences;
 mod entries;
+mod functions;
 mod lists;
 mod map_differences;
-mod testing;
+mod replaying;
 #[cfg(test)]
 mod tests;
 
 pub use algebra::{apply, is_lawful};
+pub use contents::{Content, Kind, Lists, Tagged};
+pub use copying::TryCopy;
 pub use differences::{Diffs, VecDiff};
 pub use entries::Entries;
+pub use functions::{Mapper, Tester};
 pub use lists::{Items, Name, NoMemory, Text};
 pub use map_differences::MapDiff;
-pub use testing::Tester;
+pub use replaying::{ReplayError, replay};

@@ -1,4 +1,5 @@
 ghost use Rattle.std.specs.Prelude.{◌≡◌, [], ◌∷◌, ◌++◌, ◌-◌, ◌<◌, ◌≤◌, ◌↔◌, length, take, insert, remove, slice_get, slice_set, IsTrue, IfOk, OnOk, OnErr};
+ghost use Rattle.std.specs.Option.{option_to_list};
 ghost use Rattle.sig_diff.specs.Differences.{moved};
 
 use std::alloc::{AllocError, Global};
@@ -50,6 +51,11 @@ impl<T> Items<T> {
     {
         let Items { items } = self;
         items
+    }
+
+    /// The allocator of the list.
+    pub fn alloc(&self) -> Global {
+        *self.items.allocator()
     }
 
     pub fn as_slice(&self) -> &[T]
@@ -122,11 +128,12 @@ impl<T: Drop> Items<T> {
         }
     }
 
-    /// Takes the last item out.
-    pub fn pop(&mut self)
-        ensures { self.new ≡ take (length self.old - 1) self.old }
+    /// Takes the last item out, where there is one.
+    pub fn pop(&mut self) -> Option<T>
+        ensures last { self.old ≡ self.new ++ option_to_list result }
+        ensures rest { self.new ≡ take (length self.old - 1) self.old }
     {
-        self.items.truncate(self.items.len().saturating_sub(1));
+        self.items.pop()
     }
 
     /// Takes all items out.

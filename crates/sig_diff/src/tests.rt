@@ -1,7 +1,7 @@
 ghost use Rattle.std.specs.Prelude.{◌≡◌, ◌∷◌, [], ◌<◌, ◌^◌, pos, length, IfOk};
 ghost use Rattle.sig_diff.specs.Differences.{IsLawful, applied};
 
-use crate::{Diffs, Items, VecDiff, apply, is_lawful};
+use crate::{Diffs, Items, TryCopy, VecDiff, apply, is_lawful};
 use std::alloc::Global;
 use std::test::Fail;
 

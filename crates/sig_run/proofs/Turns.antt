@@ -14,7 +14,7 @@ use Rattle.sig_run.specs.Edits.{takes_effect}
 use Rattle.sig_run.specs.Filtering.{filter_gives, if_so, passes_at, place}
 use Rattle.sig_run.specs.Flow.{flow, through}
 use Rattle.sig_run.specs.Histories.{state, edited, logged, logged_by}
-use Rattle.sig_run.specs.Replay.{AreLawful, replayed}
+use Rattle.sig_diff.specs.Replaying.{AreLawful, replayed}
 
 -- differences lead from one list to another: each is lawful at its turn, and their replay is the other
 pub record Leads {T : Type 0} (before : List T) (diffs : List (VecDiff T)) (after : List T) : Type 0 where

@@ -8,6 +8,5 @@ pub mod Watching
 pub mod Stages
 pub mod Text
 pub mod Program
-pub mod Replay
 pub mod Rows
 pub mod Lawful

@@ -9,7 +9,7 @@ use Rattle.sig_run.specs.declared.report.Body.TheVariants.{Vector, Ended}
 use Rattle.sig_run.specs.Filtering.{filter_gives}
 use Rattle.sig_run.specs.Flow.{flow}
 use Rattle.sig_run.specs.Histories.{state, is_closed}
-use Rattle.sig_run.specs.Replay.{AreLawful, replayed}
+use Rattle.sig_diff.specs.Replaying.{AreLawful, replayed}
 
 -- a vector by its start and its cap, with its whole history and the numbers of its writers
 pub record Source : Type 0 where

@@ -11,6 +11,7 @@ pub fn passing<T: Copy, P: Tester<T>>(
     tester: &P,
     items: &[T],
 ) -> Result<Items<T>, NoMemory>
+    requires can_call { P.can_call tester.now }
     ensures { IfOk result (λ kept. kept ≡ filter (P.passes tester.now) items.now) }
 {
     let mut kept = Items::new(alloc);
@@ -24,7 +25,8 @@ pub fn passing<T: Copy, P: Tester<T>>(
 
 /// Whether the item at a place passes.
 fn passes_at<T: Copy, P: Tester<T>>(tester: &P, items: &[T], index: u32) -> bool
-    requires { index < length items.now }
+    requires can_call { P.can_call tester.now }
+    requires index { index < length items.now }
     ensures { result ≡ passes_at (P.passes tester.now) items.now index }
 {
     tester.call(items[index as usize])
@@ -32,7 +34,8 @@ fn passes_at<T: Copy, P: Tester<T>>(tester: &P, items: &[T], index: u32) -> bool
 
 /// How many of the items before a place pass.
 fn place<T: Copy, P: Tester<T>>(tester: &P, items: &[T], index: u32) -> u32
-    requires { index ≤ length items.now }
+    requires can_call { P.can_call tester.now }
+    requires index { index ≤ length items.now }
     ensures result { result ≡ place (P.passes tester.now) items.now index }
     ensures within { result ≤ index }
 {
@@ -48,6 +51,7 @@ fn place<T: Copy, P: Tester<T>>(tester: &P, items: &[T], index: u32) -> u32
 /// How many of the items before a place pass, in the list without the item at `left_out`.
 #[tactic(auto, using(crate::proofs::Places::place_without_before))]
 fn place_without<T: Copy, P: Tester<T>>(tester: &P, items: &[T], left_out: u32, index: u32) -> u32
+    requires can_call { P.can_call tester.now }
     requires left_out { left_out < length items.now }
     requires index { index < length items.now }
     ensures { result ≡ place_without (P.passes tester.now) items.now left_out index }
@@ -66,7 +70,8 @@ pub fn filtered<T: Copy, P: Tester<T>>(
     items: &[T],
     diff: &VecDiff<T>,
 ) -> Result<Option<VecDiff<T>>, NoMemory>
-    requires { IsLawful diff.now (length items.now) }
+    requires can_call { P.can_call tester.now }
+    requires lawful { IsLawful diff.now (length items.now) }
     ensures { IfOk result (λ given. given ≡ filter_gives (P.passes tester.now) items.now diff.now) }
 {
     match diff {
@@ -92,7 +97,8 @@ fn inserted<T: Copy, P: Tester<T>>(
     index: u32,
     value: T,
 ) -> Option<VecDiff<T>>
-    requires { index ≤ length items.now }
+    requires can_call { P.can_call tester.now }
+    requires index { index ≤ length items.now }
     ensures { result ≡ filter_gives (P.passes tester.now) items.now (VecDiff.InsertAt index value) }
 {
     if tester.call(value) {
@@ -111,7 +117,8 @@ fn updated<T: Copy, P: Tester<T>>(
     index: u32,
     value: T,
 ) -> Option<VecDiff<T>>
-    requires { index < length items.now }
+    requires can_call { P.can_call tester.now }
+    requires index { index < length items.now }
     ensures { result ≡ filter_gives (P.passes tester.now) items.now (VecDiff.UpdateAt index value) }
 {
     let old = passes_at(tester, items, index);
@@ -125,7 +132,8 @@ fn updated<T: Copy, P: Tester<T>>(
 }
 
 fn removed<T: Copy, P: Tester<T>>(tester: &P, items: &[T], index: u32) -> Option<VecDiff<T>>
-    requires { index < length items.now }
+    requires can_call { P.can_call tester.now }
+    requires index { index < length items.now }
     ensures { result ≡ filter_gives (P.passes tester.now) items.now (VecDiff.RemoveAt index) }
 {
     if passes_at(tester, items, index) {
@@ -138,6 +146,7 @@ fn removed<T: Copy, P: Tester<T>>(tester: &P, items: &[T], index: u32) -> Option
 }
 
 fn moved<T: Copy, P: Tester<T>>(tester: &P, items: &[T], from: u32, to: u32) -> Option<VecDiff<T>>
+    requires can_call { P.can_call tester.now }
     requires from { from < length items.now }
     requires to { to < length items.now }
     ensures { result ≡ filter_gives (P.passes tester.now) items.now (VecDiff.Move from to) }
@@ -158,6 +167,7 @@ fn moved<T: Copy, P: Tester<T>>(tester: &P, items: &[T], from: u32, to: u32) -> 
 }
 
 fn pushed<T: Copy, P: Tester<T>>(tester: &P, value: T) -> Option<VecDiff<T>>
+    requires can_call { P.can_call tester.now }
     ensures { result ≡ if_so (P.passes tester.now value) (VecDiff.Push value) }
 {
     if tester.call(value) {
@@ -168,7 +178,8 @@ fn pushed<T: Copy, P: Tester<T>>(tester: &P, value: T) -> Option<VecDiff<T>>
 }
 
 fn popped<T: Copy, P: Tester<T>>(tester: &P, items: &[T]) -> Option<VecDiff<T>>
-    requires { 0 < length items.now }
+    requires can_call { P.can_call tester.now }
+    requires some { 0 < length items.now }
     ensures { result ≡ filter_gives (P.passes tester.now) items.now VecDiff.Pop }
 {
     if tester.call(items[items.len() - 1]) {

@@ -1,7 +1,7 @@
 ghost use Rattle.std.specs.Prelude.{◌≡◌, ◌<◌, ◌≤◌, ◌^◌, [], length, IfOk, OnOk};
 ghost use Rattle.sig_run.specs.Edits.{is_long, takes_effect, reply_to};
 
-use sig_diff::{Items, NoMemory, VecDiff, apply, is_lawful};
+use sig_diff::{Items, NoMemory, TryCopy, VecDiff, apply, is_lawful};
 use std::alloc::Global;
 
 /// What an entry of a history says that its caller did.

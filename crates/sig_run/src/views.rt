@@ -9,7 +9,7 @@ ghost use Rattle.sig_run.specs.Histories.{logged_by, state};
 use crate::filtering::{filtered, passing};
 use crate::report::{Body, Row, Rows};
 use crate::sources::{Edit, Entry, SourceState, takes_effect};
-use sig_diff::{Diffs, Items, NoMemory, Tester, VecDiff, apply};
+use sig_diff::{Diffs, Items, NoMemory, Tester, TryCopy, VecDiff, apply};
 use std::alloc::Global;
 
 /// The most entries that one row follows one by one. A view that is further behind catches up at once.
@@ -23,6 +23,8 @@ pub struct AtLeast {
 
 impl Tester<i64> for AtLeast {
     ghost use Rattle.sig_run.specs.Flow.{is_at_least};
+
+    ghost can_call = { λ test. Unit {0} };
 
     ghost passes = { λ test. is_at_least test.least };
 

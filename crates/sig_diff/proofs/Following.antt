@@ -1,0 +1,62 @@
+-- Differences one after another: of lists joined end to end, and as a loop goes through them.
+use Rattle.std.proofs.Common.{◌≡◌, ℕ, ◌+◌, ◌<◌, ◌^◌, ◌≤◌, List, [], ◌∷◌, ◌++◌, length, take, drop, get_or, Bool, false, IsTrue, Some, refl, sym, ap, subst, ◌∙◌}
+use Rattle.std.specs.List.{fold}
+use Rattle.std.specs.Option.{option_map}
+use Rattle.std.proofs.lemmas.List.{drop_more, take_more, take_all}
+use Rattle.std.proofs.lemmas.List.Sums.{fold-append}
+use Rattle.std.proofs.lemmas.Option.{slice_get_read}
+use Rattle.sig_diff.specs.Replaying.{AreTaken, StaysCounted, IsFirstRefused}
+
+module _ {Content Diff : Type 0} (takes : Diff → Content → Bool) (after : Content → Diff → Content) where
+  -- differences that are taken, and then others that are
+  pub are_taken_append : (content : Content) (diffs more : List Diff) → AreTaken takes after content diffs → AreTaken takes after (fold after content diffs) more → AreTaken takes after content (diffs ++ more)
+  are_taken_append content [] more first then = then
+  are_taken_append content (diff ∷ diffs) more first then = (first.0, are_taken_append (after content diff) diffs more first.1 then)
+
+  pub are_taken_front : (content : Content) (diffs more : List Diff) → AreTaken takes after content (diffs ++ more) → AreTaken takes after content diffs
+  are_taken_front content [] more all = tt
+  are_taken_front content (diff ∷ diffs) more all = (all.0, are_taken_front (after content diff) diffs more all.1)
+
+  pub are_taken_back : (content : Content) (diffs more : List Diff) → AreTaken takes after content (diffs ++ more) → AreTaken takes after (fold after content diffs) more
+  are_taken_back content [] more all = all
+  are_taken_back content (diff ∷ diffs) more all = are_taken_back (after content diff) diffs more all.1
+
+  module _ (size : Content → ℕ) (start : Content) (diffs : List Diff) where
+    -- the differences before a place were all taken and gave the content, and the others may follow
+    pub record Followed (content : Content) (place : ℕ) : Type 0 where
+      pub taken : AreTaken takes after start (take place diffs)
+      pub is : fold after start (take place diffs) ≡ content
+      pub counted : size content < 2 ^ 32
+      pub rest : StaysCounted takes after size content (drop place diffs)
+
+    pub followed_none : size start < 2 ^ 32 → StaysCounted takes after size start diffs → Followed start 0
+    followed_none counted rest = record { taken = tt; is = refl; counted = counted; rest = rest }
+
+    -- one more difference is taken
+    pub followed_more : (content : Content) (place : ℕ) (diff : Diff) → place < length diffs → diff ≡ get_or diffs place diff → Followed content place → IsTrue (takes diff content) → Followed (after content diff) (place + 1)
+    followed_more content place diff within read so_far takes_it =
+        let left : drop place diffs ≡ diff ∷ drop (place + 1) diffs = drop_more diffs place diff within ∙ ap (λ d. d ∷ drop (place + 1) diffs) (sym read) in
+        let done : take (place + 1) diffs ≡ take place diffs ++ diff ∷ [] = take_more diffs place diff within ∙ ap (λ d. take place diffs ++ d ∷ []) (sym read) in
+        let stays = subst (StaysCounted takes after size content) left so_far.rest takes_it in
+        record {
+          taken = subst (AreTaken takes after start) (sym done) (are_taken_append start (take place diffs) (diff ∷ []) so_far.taken (subst (λ c. IsTrue (takes diff c)) (sym so_far.is) takes_it, tt));
+          is = ap (fold after start) done ∙ fold-append after start (take place diffs) (diff ∷ []) ∙ ap (λ c. after c diff) so_far.is;
+          counted = stays.0;
+          rest = stays.1;
+        }
+
+    -- the next one isn't
+    pub followed_until : (content : Content) (place : ℕ) (diff : Diff) → place < length diffs → diff ≡ get_or diffs place diff → Followed content place → takes diff content ≡ false → IsFirstRefused takes after size start diffs place (size content)
+    followed_until content place diff within read so_far refuses = record {
+      before = so_far.taken;
+      refused = ap (option_map (λ d. takes d (fold after start (take place diffs)))) (slice_get_read diffs (length diffs) place diff refl within read) ∙ ap (λ c. Some (takes diff c)) so_far.is ∙ ap Some refuses;
+      there = ap size so_far.is;
+    }
+
+    -- all were taken
+    pub followed_all : (content : Content) (place : ℕ) → length diffs ≤ place → Followed content place → AreTaken takes after start diffs × (fold after start diffs ≡ content)
+    followed_all content place all so_far =
+        let whole = take_all place diffs all in
+        (subst (AreTaken takes after start) whole so_far.taken, ap (fold after start) (sym whole) ∙ so_far.is)
+
+pub ruleset replay_steps = (followed_none, followed_more, followed_until, followed_all)
