@@ -7,3 +7,4 @@ pub mod Sorting
 pub mod Blocks
 pub mod Numbers
 pub mod Contents
+pub mod formers

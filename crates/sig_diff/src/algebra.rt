@@ -1,4 +1,4 @@
-ghost use Rattle.std.specs.Prelude.{◌≡◌, ◌^◌, ◌<◌, ◌↔◌, length, IsTrue, OnOk, OnErr};
+ghost use Rattle.std.specs.Prelude.{◌≡◌, length, OnOk, OnErr};
 ghost use Rattle.sig_diff.specs.Differences.{is_lawful, IsLawful, applied};
 
 use crate::differences::VecDiff;
@@ -22,8 +22,7 @@ pub fn is_lawful<T>(diff: &VecDiff<T>, len: u32) -> bool
 
 /// Changes a list by a difference that it takes. After a refusal the list is as it was.
 pub fn apply<T: Copy + Eq>(list: &mut Items<T>, diff: &VecDiff<T>) -> Result<(), NoMemory>
-    requires lawful { IsLawful diff.now (length list.old) }
-    requires short { length (applied list.old diff.now) < 2 ^ 32 }
+    requires { IsLawful diff.now (length list.old) }
     ensures ok { OnOk result (list.new ≡ applied list.old diff.now) }
     ensures err { OnErr result (list.new ≡ list.old) }
 {

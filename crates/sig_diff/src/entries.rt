@@ -1,5 +1,5 @@
-ghost use Rattle.std.specs.Prelude.{◌≡◌, [], ◌∷◌, ◌++◌, ◌<◌, ◌↔◌, length, insert, remove, slice_set, IsTrue, IfOk, OnOk, OnErr, MatchResult};
-ghost use Rattle.sig_diff.specs.Entries.{IsRising, IsAbove, rank, has_key};
+ghost use Rattle.std.specs.Prelude.{◌≡◌, true, false, Some, [], ◌∷◌, ◌++◌, ◌↔◌, length, is_ok, IsTrue, IfOk, OnOk, OnErr, MatchResult};
+ghost use Rattle.sig_diff.specs.Entries.{IsRising, IsAbove, rank, has_key, value_at, with_value, without};
 
 use crate::lists::NoMemory;
 use std::alloc::Global;
@@ -50,14 +50,86 @@ impl<V> Entries<V> {
     {
         self.entries.is_empty()
     }
+
+    /// Where the key stands, or where it would come in.
+    pub fn search(&self, key: i64) -> Result<usize, usize>
+        ensures place { MatchResult result (λ index. index ≡ rank key self.now) (λ index. index ≡ rank key self.now) }
+        ensures found { is_ok result ≡ has_key key self.now }
+    {
+        self.entries.binary_search_by_key(&key, |entry| entry.0)
+    }
 }
 
 impl<V: Copy> Entries<V> {
+    /// The value at the key, if the map has one.
+    pub fn get(&self, key: i64) -> Option<V>
+        ensures { result ≡ value_at key self.now }
+    {
+        match self.search(key) {
+            Ok(index) => Some(self.entries[index].1),
+            Err(_) => None,
+        }
+    }
+
     pub fn copy(&self) -> Result<Entries<V>, NoMemory>
         ensures { IfOk result (λ copy. copy ≡ self.now) }
     {
         let alloc = *self.entries.allocator();
         let entries = Vec::from_slice(alloc, self.entries.as_slice())?;
         Ok(Entries { entries })
+    }
+}
+
+impl<V: Drop> Entries<V> {
+    /// Puts an entry at the end, whose key is above the others. After a refusal the map is as it was.
+    pub fn push(&mut self, entry: (i64, V)) -> Result<(), NoMemory>
+        requires { IsAbove entry.0 self.old }
+        ensures ok { OnOk result (self.new ≡ self.old ++ entry ∷ []) }
+        ensures err { OnErr result (self.new ≡ self.old) }
+    {
+        self.entries.push(entry)?;
+        Ok(())
+    }
+
+    /// Puts a key that the map doesn't have in its place. After a refusal the map is as it was.
+    pub fn insert(&mut self, key: i64, value: V) -> Result<(), NoMemory>
+        requires { has_key key self.old ≡ false }
+        ensures ok { OnOk result (self.new ≡ with_value key value self.old) }
+        ensures err { OnErr result (self.new ≡ self.old) }
+    {
+        match self.search(key) {
+            Ok(_) => unreachable!(),
+            Err(index) => Ok(self.entries.insert(index, (key, value))?),
+        }
+    }
+
+    /// Gives a key of the map another value. It takes no memory.
+    pub fn update(&mut self, key: i64, value: V)
+        requires { has_key key self.old ≡ true }
+        ensures { self.new ≡ with_value key value self.old }
+    {
+        match self.search(key) {
+            Ok(index) => self.entries[index] = (key, value),
+            Err(_) => unreachable!(),
+        }
+    }
+
+    /// Takes a key of the map out. It takes no memory.
+    pub fn remove(&mut self, key: i64) -> V
+        requires { has_key key self.old ≡ true }
+        ensures value { value_at key self.old ≡ Some result }
+        ensures rest { self.new ≡ without key self.old }
+    {
+        match self.search(key) {
+            Ok(index) => self.entries.remove(index).1,
+            Err(_) => unreachable!(),
+        }
+    }
+
+    /// Takes all entries out.
+    pub fn clear(&mut self)
+        ensures { self.new ≡ [] }
+    {
+        self.entries.clear();
     }
 }

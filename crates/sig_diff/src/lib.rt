@@ -2,23 +2,27 @@
 #![tactic(auto)]
 
 mod algebra;
+mod boxed;
 mod contents;
 mod copying;
 mod differences;
 mod entries;
 mod functions;
 mod lists;
+mod map_algebra;
 mod map_differences;
 mod replaying;
 #[cfg(test)]
 mod tests;
 
 pub use algebra::{apply, is_lawful};
+pub use boxed::Boxed;
 pub use contents::{Content, Kind, Lists, Tagged};
 pub use copying::TryCopy;
 pub use differences::{Diffs, VecDiff};
 pub use entries::Entries;
 pub use functions::{Mapper, Tester};
 pub use lists::{Items, Name, NoMemory, Text};
-pub use map_differences::MapDiff;
-pub use replaying::{ReplayError, replay};
+pub use map_algebra::{map_apply, map_is_lawful};
+pub use map_differences::{MapDiff, MapDiffs};
+pub use replaying::{ReplayError, map_replay, replay};

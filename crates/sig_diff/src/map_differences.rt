@@ -1,4 +1,6 @@
+use crate::copying::TryCopy;
 use crate::entries::Entries;
+use crate::lists::{Items, NoMemory};
 
 /// One difference between two maps.
 #[derive(Debug, Drop)]
@@ -14,3 +16,26 @@ pub enum MapDiff<V> {
     /// Every key goes.
     Clear,
 }
+
+impl<V: Copy> TryCopy for MapDiff<V> {
+    fn copy(&self) -> Result<Self, NoMemory> {
+        Ok(match self {
+            MapDiff::Replace { entries } => MapDiff::Replace {
+                entries: entries.copy()?,
+            },
+            MapDiff::Insert { key, value } => MapDiff::Insert {
+                key: *key,
+                value: *value,
+            },
+            MapDiff::Update { key, value } => MapDiff::Update {
+                key: *key,
+                value: *value,
+            },
+            MapDiff::Remove { key } => MapDiff::Remove { key: *key },
+            MapDiff::Clear => MapDiff::Clear,
+        })
+    }
+}
+
+/// Differences to be applied one after another.
+pub type MapDiffs<V> = Items<MapDiff<V>>;

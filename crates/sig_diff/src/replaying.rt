@@ -1,10 +1,14 @@
 ghost use Rattle.std.specs.Prelude.{◌≡◌, [], ◌<◌, ◌^◌, length, IfOk, OnOk, IfErr};
 ghost use Rattle.sig_diff.specs.Differences.{applied};
-ghost use Rattle.sig_diff.specs.Replaying.{AreLawful, replayed, StaysCounted, list_takes, IsUnlawfulAt};
+ghost use Rattle.sig_diff.specs.MapDifferences.{map_is_lawful, map_applied};
+ghost use Rattle.sig_diff.specs.Replaying.{AreLawful, MapAreLawful, replayed, map_replayed, StaysCounted, list_takes, IsUnlawfulAt};
 
 use crate::algebra::{apply, is_lawful};
 use crate::differences::Diffs;
+use crate::entries::Entries;
 use crate::lists::{Items, NoMemory};
+use crate::map_algebra::{map_apply, map_is_lawful};
+use crate::map_differences::MapDiffs;
 use std::alloc::Global;
 
 /// Why differences have no replay.
@@ -46,4 +50,29 @@ pub fn replay<T: Copy + Eq>(alloc: Global, diffs: &Diffs<T>) -> Result<Items<T>,
         at += 1;
     }
     Ok(items)
+}
+
+/// The map after all of the differences, from the empty map on.
+#[tactic(auto, using(crate::proofs::Following::replay_steps))]
+pub fn map_replay<V: Copy + Eq>(
+    alloc: Global,
+    diffs: &MapDiffs<V>,
+) -> Result<Entries<V>, ReplayError>
+    requires few { length diffs.now < 2 ^ 32 }
+    requires short { StaysCounted map_is_lawful map_applied length [] diffs.now }
+    ensures lawful { OnOk result (MapAreLawful [] diffs.now) }
+    ensures ok { IfOk result (λ map. map ≡ map_replayed [] diffs.now) }
+    ensures err { IfErr result (IsUnlawfulAt map_is_lawful map_applied length [] diffs.now) }
+{
+    let mut map = Entries::new(alloc);
+    let mut at = 0;
+    'diffs: for diff in diffs.as_slice() {
+        if !map_is_lawful(diff, &map) {
+            let len = map.len() as u32;
+            return Err(ReplayError::Unlawful { at, len });
+        }
+        map_apply(&mut map, diff)?;
+        at += 1;
+    }
+    Ok(map)
 }
