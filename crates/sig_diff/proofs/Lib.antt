@@ -1,6 +1,6 @@
 pub mod Blocks
 pub mod Following
 pub mod Numbers
-pub mod Passing
+pub mod Filtered
 pub mod Ranks
 pub mod Sorting

@@ -1,4 +1,7 @@
-ghost use Rattle.std.specs.Prelude.{◌≡◌, Bool};
+ghost use Rattle.std.specs.Prelude.{◌≡◌, Bool, map, filter, IfOk};
+
+use crate::lists::{Items, NoMemory};
+use std::alloc::Global;
 
 /// A function of an item.
 pub trait Mapper<T, U> {
@@ -20,4 +23,38 @@ pub trait Tester<T> {
     fn call(&self, item: T) -> bool
         requires { can_call self.now }
         ensures { result ≡ passes self.now item };
+}
+
+/// The images of the items.
+pub fn mapped<T: Copy, U: Drop, M: Mapper<T, U>>(
+    alloc: Global,
+    mapper: &M,
+    items: &[T],
+) -> Result<Items<U>, NoMemory>
+    requires { M.can_call mapper.now }
+    ensures { IfOk result (λ images. images ≡ map (M.maps mapper.now) items.now) }
+{
+    let mut images = Items::new(alloc);
+    'items: for item in items {
+        images.push(mapper.call(*item))?;
+    }
+    Ok(images)
+}
+
+/// The items that pass.
+pub fn passing<T: Copy, P: Tester<T>>(
+    alloc: Global,
+    tester: &P,
+    items: &[T],
+) -> Result<Items<T>, NoMemory>
+    requires { P.can_call tester.now }
+    ensures { IfOk result (λ kept. kept ≡ filter (P.passes tester.now) items.now) }
+{
+    let mut kept = Items::new(alloc);
+    'items: for item in items {
+        if tester.call(*item) {
+            kept.push(*item)?;
+        }
+    }
+    Ok(kept)
 }

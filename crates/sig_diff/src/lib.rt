@@ -2,6 +2,7 @@
 #![tactic(auto)]
 
 mod algebra;
+mod arithmetic;
 mod boxed;
 mod contents;
 mod copying;
@@ -11,18 +12,21 @@ mod functions;
 mod lists;
 mod map_algebra;
 mod map_differences;
+mod orders;
 mod replaying;
 #[cfg(test)]
 mod tests;
 
 pub use algebra::{apply, is_lawful};
+pub use arithmetic::{clamped, class_of};
 pub use boxed::Boxed;
 pub use contents::{Content, Kind, Lists, Tagged};
 pub use copying::TryCopy;
 pub use differences::{Diffs, VecDiff};
 pub use entries::Entries;
-pub use functions::{Mapper, Tester};
-pub use lists::{Items, Name, NoMemory, Text};
+pub use functions::{Mapper, Tester, mapped, passing};
+pub use lists::{Items, LeafList, Name, NoMemory, Text};
 pub use map_algebra::{map_apply, map_is_lawful};
 pub use map_differences::{MapDiff, MapDiffs};
+pub use orders::in_order;
 pub use replaying::{ReplayError, map_replay, replay};

@@ -20,6 +20,9 @@ pub type Name = Items<u8>;
 /// A text, as bytes.
 pub type Text = Items<u8>;
 
+/// The source number of each leaf of a view, from left to right.
+pub type LeafList = Items<usize>;
+
 impl<T> Model for Items<T> {
     ghost use Rattle.std.specs.Prelude.{List};
 
