@@ -38,3 +38,7 @@ module _ {V : Type 0} where
 
   abbrev pub values_of : List (ℤ × V) → List V
   values_of entries = map (λ entry. entry.1) entries
+
+-- the map with the function at each value
+abbrev pub values_mapped : {V U : Type 0} → (V → U) → List (ℤ × V) → List (ℤ × U)
+values_mapped f entries = map (λ entry. (entry.0, f entry.1)) entries

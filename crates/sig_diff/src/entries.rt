@@ -1,7 +1,8 @@
 ghost use Rattle.std.specs.Prelude.{◌≡◌, true, false, Some, [], ◌∷◌, ◌++◌, ◌↔◌, length, is_ok, IsTrue, IfOk, OnOk, OnErr, MatchResult};
-ghost use Rattle.sig_diff.specs.Entries.{IsRising, IsAbove, rank, has_key, value_at, with_value, without};
+ghost use Rattle.sig_diff.specs.Entries.{IsRising, IsAbove, rank, has_key, value_at, with_value, without, keys_of, values_of, values_mapped};
 
-use crate::lists::NoMemory;
+use crate::functions::Mapper;
+use crate::lists::{Items, NoMemory};
 use std::alloc::Global;
 use std::marker::Model;
 
@@ -30,6 +31,11 @@ impl<V> Entries<V> {
         Entries {
             entries: Vec::new(alloc),
         }
+    }
+
+    /// What the map's memory is allocated by.
+    pub fn alloc(&self) -> Global {
+        *self.entries.allocator()
     }
 
     pub fn as_slice(&self) -> &[(i64, V)]
@@ -71,11 +77,52 @@ impl<V: Copy> Entries<V> {
         }
     }
 
+    /// The keys, by rising keys.
+    pub fn keys(&self) -> Result<Items<i64>, NoMemory>
+        ensures { IfOk result (λ keys. keys ≡ keys_of self.now) }
+    {
+        let mut keys = Items::new(self.alloc());
+        'entries: for entry in &self.entries {
+            keys.push(entry.0)?;
+        }
+        Ok(keys)
+    }
+
+    /// The values, by rising keys.
+    pub fn values(&self) -> Result<Items<V>, NoMemory>
+        ensures { IfOk result (λ values. values ≡ values_of self.now) }
+    {
+        let mut values = Items::new(self.alloc());
+        'entries: for entry in &self.entries {
+            values.push(entry.1)?;
+        }
+        Ok(values)
+    }
+
+    /// The entries as a list of pairs, by rising keys.
+    pub fn pairs(&self) -> Result<Items<(i64, V)>, NoMemory>
+        ensures { IfOk result (λ pairs. pairs ≡ self.now) }
+    {
+        let pairs = Vec::from_slice(self.alloc(), self.entries.as_slice())?;
+        Ok(Items::from_vec(pairs))
+    }
+
+    /// The map with the function at each value.
+    pub fn map_values<U: Drop, M: Mapper<V, U>>(&self, mapper: &M) -> Result<Entries<U>, NoMemory>
+        requires { M.can_call mapper.now }
+        ensures { IfOk result (λ images. images ≡ values_mapped (M.maps mapper.now) self.now) }
+    {
+        let mut entries = Vec::new(self.alloc());
+        'entries: for entry in &self.entries {
+            entries.push((entry.0, mapper.call(entry.1)))?;
+        }
+        Ok(Entries { entries })
+    }
+
     pub fn copy(&self) -> Result<Entries<V>, NoMemory>
         ensures { IfOk result (λ copy. copy ≡ self.now) }
     {
-        let alloc = *self.entries.allocator();
-        let entries = Vec::from_slice(alloc, self.entries.as_slice())?;
+        let entries = Vec::from_slice(self.alloc(), self.entries.as_slice())?;
         Ok(Entries { entries })
     }
 }
