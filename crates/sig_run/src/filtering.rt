@@ -1,27 +1,9 @@
-ghost use Rattle.std.specs.Prelude.{◌≡◌, ◌<◌, ◌≤◌, length, filter, IfOk};
+ghost use Rattle.std.specs.Prelude.{◌≡◌, ◌<◌, ◌≤◌, length, IfOk};
 ghost use Rattle.sig_diff.specs.Differences.{IsLawful};
 ghost use Rattle.sig_run.specs.Filtering.{passes_at, place, place_without, if_so, filter_gives};
 
-use sig_diff::{Items, NoMemory, Tester, VecDiff};
+use sig_diff::{NoMemory, Tester, VecDiff, passing};
 use std::alloc::Global;
-
-/// The items that pass.
-pub fn passing<T: Copy, P: Tester<T>>(
-    alloc: Global,
-    tester: &P,
-    items: &[T],
-) -> Result<Items<T>, NoMemory>
-    requires can_call { P.can_call tester.now }
-    ensures { IfOk result (λ kept. kept ≡ filter (P.passes tester.now) items.now) }
-{
-    let mut kept = Items::new(alloc);
-    'items: for item in items {
-        if tester.call(*item) {
-            kept.push(*item)?;
-        }
-    }
-    Ok(kept)
-}
 
 /// Whether the item at a place passes.
 fn passes_at<T: Copy, P: Tester<T>>(tester: &P, items: &[T], index: u32) -> bool

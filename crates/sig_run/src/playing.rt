@@ -3,11 +3,10 @@ ghost use Rattle.sig_script.specs.Script.{KeepsLimits};
 ghost use Rattle.sig_run.specs.Script.{edits_in, edit_from, cap_of, is_push};
 ghost use Rattle.sig_run.specs.Playing.{play};
 
-use crate::filtering::passing;
 use crate::report::{Report, SourceReport, ViewReport};
 use crate::sources::{Edit, SourceState};
 use crate::views::ViewState;
-use sig_diff::{NoMemory, VecDiff};
+use sig_diff::{NoMemory, VecDiff, passing};
 use sig_script::{FirstEdit, FirstEvent, FirstScript};
 use std::alloc::Global;
 

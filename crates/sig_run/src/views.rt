@@ -6,10 +6,10 @@ ghost use Rattle.sig_run.specs.Filtering.{filter_gives};
 ghost use Rattle.sig_run.specs.Flow.{is_at_least, through};
 ghost use Rattle.sig_run.specs.Histories.{logged_by, state};
 
-use crate::filtering::{filtered, passing};
+use crate::filtering::filtered;
 use crate::report::{Body, Row, Rows};
 use crate::sources::{Edit, Entry, SourceState, takes_effect};
-use sig_diff::{Diffs, Items, NoMemory, Tester, TryCopy, VecDiff, apply};
+use sig_diff::{Diffs, Items, NoMemory, Tester, TryCopy, VecDiff, apply, passing};
 use std::alloc::Global;
 
 /// The most entries that one row follows one by one. A view that is further behind catches up at once.
