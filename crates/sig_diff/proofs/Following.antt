@@ -1,11 +1,11 @@
 -- Differences one after another: of lists joined end to end, and as a loop goes through them.
-use Rattle.std.proofs.Common.{◌≡◌, ℕ, ◌+◌, ◌<◌, ◌^◌, ◌≤◌, List, [], ◌∷◌, ◌++◌, length, take, drop, get_or, Bool, false, IsTrue, Some, refl, sym, ap, subst, ◌∙◌}
+use Rattle.std.proofs.Common.{◌≡◌, ℕ, ◌+◌, ◌<◌, ◌≤◌, List, [], ◌∷◌, ◌++◌, length, take, drop, get_or, Bool, false, IsTrue, Some, refl, sym, ap, subst, ◌∙◌}
 use Rattle.std.specs.List.{fold}
 use Rattle.std.specs.Option.{option_map}
 use Rattle.std.proofs.lemmas.List.{drop_more, take_more, take_all}
 use Rattle.std.proofs.lemmas.List.Sums.{fold-append}
 use Rattle.std.proofs.lemmas.Option.{slice_get_read}
-use Rattle.sig_diff.specs.Replaying.{AreTaken, StaysCounted, IsFirstRefused}
+use Rattle.sig_diff.specs.Replaying.{AreTaken, StaysWithin, IsFirstRefused}
 
 module _ {Content Diff : Type 0} (takes : Diff → Content → Bool) (after : Content → Diff → Content) where
   -- differences that are taken, and then others that are
@@ -21,27 +21,27 @@ module _ {Content Diff : Type 0} (takes : Diff → Content → Bool) (after : Co
   are_taken_back content [] more all = all
   are_taken_back content (diff ∷ diffs) more all = are_taken_back (after content diff) diffs more all.1
 
-  module _ (size : Content → ℕ) (start : Content) (diffs : List Diff) where
+  module _ (size : Content → ℕ) (most : ℕ) (start : Content) (diffs : List Diff) where
     -- the differences before a place were all taken and gave the content, and the others may follow
     pub record Followed (content : Content) (place : ℕ) : Type 0 where
       pub taken : AreTaken takes after start (take place diffs)
       pub is : fold after start (take place diffs) ≡ content
-      pub counted : size content < 2 ^ 32
-      pub rest : StaysCounted takes after size content (drop place diffs)
+      pub within : size content ≤ most
+      pub rest : StaysWithin takes after size most content (drop place diffs)
 
-    pub followed_none : size start < 2 ^ 32 → StaysCounted takes after size start diffs → Followed start 0
-    followed_none counted rest = record { taken = tt; is = refl; counted = counted; rest = rest }
+    pub followed_none : size start ≤ most → StaysWithin takes after size most start diffs → Followed start 0
+    followed_none within rest = record { taken = tt; is = refl; within = within; rest = rest }
 
     -- one more difference is taken
     pub followed_more : (content : Content) (place : ℕ) (diff : Diff) → place < length diffs → diff ≡ get_or diffs place diff → Followed content place → IsTrue (takes diff content) → Followed (after content diff) (place + 1)
     followed_more content place diff within read so_far takes_it =
         let left : drop place diffs ≡ diff ∷ drop (place + 1) diffs = drop_more diffs place diff within ∙ ap (λ d. d ∷ drop (place + 1) diffs) (sym read) in
         let done : take (place + 1) diffs ≡ take place diffs ++ diff ∷ [] = take_more diffs place diff within ∙ ap (λ d. take place diffs ++ d ∷ []) (sym read) in
-        let stays = subst (StaysCounted takes after size content) left so_far.rest takes_it in
+        let stays = subst (StaysWithin takes after size most content) left so_far.rest takes_it in
         record {
           taken = subst (AreTaken takes after start) (sym done) (are_taken_append start (take place diffs) (diff ∷ []) so_far.taken (subst (λ c. IsTrue (takes diff c)) (sym so_far.is) takes_it, tt));
           is = ap (fold after start) done ∙ fold-append after start (take place diffs) (diff ∷ []) ∙ ap (λ c. after c diff) so_far.is;
-          counted = stays.0;
+          within = stays.0;
           rest = stays.1;
         }
 

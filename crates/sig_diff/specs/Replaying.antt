@@ -1,6 +1,6 @@
 -- Differences one after another, of lists and of maps alike: `takes` says whether a content takes a difference, `after` is the
 -- content after it.
-use Rattle.std.specs.Prelude.{◌≡◌, ℕ, ◌<◌, ◌^◌, ℤ, Bool, false, IsTrue, List, [], ◌∷◌, take, length, slice_get, Some}
+use Rattle.std.specs.Prelude.{◌≡◌, ℕ, ◌≤◌, ℤ, Bool, false, IsTrue, List, [], ◌∷◌, take, length, slice_get, Some}
 use Rattle.std.specs.List.{fold}
 use Rattle.std.specs.Option.{option_map}
 use Rattle.sig_diff.specs.declared.differences.VecDiff.{VecDiff}
@@ -17,10 +17,10 @@ module _ {Content Diff : Type 0} (takes : Diff → Content → Bool) (after : Co
   AreTaken content (diff ∷ diffs) = IsTrue (takes diff content) × AreTaken (after content diff) diffs
 
   module _ (size : Content → ℕ) where
-    -- as far as each difference is taken at its turn, no content after one is larger than a 32 bit number says
-    abbrev pub StaysCounted : Content → List Diff → Type 0
-    StaysCounted content [] = Unit {0}
-    StaysCounted content (diff ∷ diffs) = IsTrue (takes diff content) → (size (after content diff) < 2 ^ 32) × StaysCounted (after content diff) diffs
+    -- as far as each difference is taken at its turn, no content after one is larger than `most`
+    abbrev pub StaysWithin : ℕ → Content → List Diff → Type 0
+    StaysWithin most content [] = Unit {0}
+    StaysWithin most content (diff ∷ diffs) = IsTrue (takes diff content) → (size (after content diff) ≤ most) × StaysWithin most (after content diff) diffs
 
     -- all differences before the place are taken, the one there isn't, and the content there has this size
     pub record IsFirstRefused (content : Content) (diffs : List Diff) (place len : ℕ) : Type 0 where
@@ -42,6 +42,10 @@ list_takes diff xs = is_lawful diff (length xs)
 abbrev pub AreLawful : {T : Type 0} → List T → List (VecDiff T) → Type 0
 AreLawful xs diffs = AreTaken list_takes applied xs diffs
 
+-- no list on the way has more than `most` items
+abbrev pub StaysShort : {T : Type 0} → ℕ → List T → List (VecDiff T) → Type 0
+StaysShort most xs diffs = StaysWithin list_takes applied length most xs diffs
+
 -- the list after all of them
 abbrev pub replayed : {T : Type 0} → List T → List (VecDiff T) → List T
 replayed xs diffs = fold applied xs diffs
@@ -50,6 +54,9 @@ replayed xs diffs = fold applied xs diffs
 
 abbrev pub MapAreLawful : {V : Type 0} → List (ℤ × V) → List (MapDiff V) → Type 0
 MapAreLawful map diffs = AreTaken map_is_lawful map_applied map diffs
+
+abbrev pub MapStaysShort : {V : Type 0} → ℕ → List (ℤ × V) → List (MapDiff V) → Type 0
+MapStaysShort most map diffs = StaysWithin map_is_lawful map_applied length most map diffs
 
 abbrev pub map_replayed : {V : Type 0} → List (ℤ × V) → List (MapDiff V) → List (ℤ × V)
 map_replayed map diffs = fold map_applied map diffs

@@ -1,7 +1,7 @@
-ghost use Rattle.std.specs.Prelude.{◌≡◌, [], ◌<◌, ◌^◌, length, IfOk, OnOk, IfErr};
+ghost use Rattle.std.specs.Prelude.{◌≡◌, [], ◌<◌, ◌-◌, ◌^◌, length, IfOk, OnOk, IfErr};
 ghost use Rattle.sig_diff.specs.Differences.{applied};
 ghost use Rattle.sig_diff.specs.MapDifferences.{map_is_lawful, map_applied};
-ghost use Rattle.sig_diff.specs.Replaying.{AreLawful, MapAreLawful, replayed, map_replayed, StaysCounted, list_takes, IsUnlawfulAt};
+ghost use Rattle.sig_diff.specs.Replaying.{AreLawful, MapAreLawful, replayed, map_replayed, StaysShort, MapStaysShort, list_takes, IsUnlawfulAt};
 
 use crate::algebra::{apply, is_lawful};
 use crate::differences::Diffs;
@@ -34,7 +34,7 @@ impl From<NoMemory> for ReplayError {
 #[tactic(auto, using(crate::proofs::Following::replay_steps))]
 pub fn replay<T: Copy + Eq>(alloc: Global, diffs: &Diffs<T>) -> Result<Items<T>, ReplayError>
     requires few { length diffs.now < 2 ^ 32 }
-    requires short { StaysCounted list_takes applied length [] diffs.now }
+    requires short { StaysShort (2 ^ 32 - 1) [] diffs.now }
     ensures lawful { OnOk result (AreLawful [] diffs.now) }
     ensures ok { IfOk result (λ items. items ≡ replayed [] diffs.now) }
     ensures err { IfErr result (IsUnlawfulAt list_takes applied length [] diffs.now) }
@@ -59,7 +59,7 @@ pub fn map_replay<V: Copy + Eq>(
     diffs: &MapDiffs<V>,
 ) -> Result<Entries<V>, ReplayError>
     requires few { length diffs.now < 2 ^ 32 }
-    requires short { StaysCounted map_is_lawful map_applied length [] diffs.now }
+    requires short { MapStaysShort (2 ^ 32 - 1) [] diffs.now }
     ensures lawful { OnOk result (MapAreLawful [] diffs.now) }
     ensures ok { IfOk result (λ map. map ≡ map_replayed [] diffs.now) }
     ensures err { IfErr result (IsUnlawfulAt map_is_lawful map_applied length [] diffs.now) }

@@ -1,7 +1,5 @@
-ghost use Rattle.std.specs.Prelude.{◌≡◌, [], length, IfOk};
-ghost use Rattle.sig_diff.specs.Differences.{IsLawful, applied};
-ghost use Rattle.sig_diff.specs.MapDifferences.{map_is_lawful, map_applied};
-ghost use Rattle.sig_diff.specs.Replaying.{StaysCounted, list_takes};
+ghost use Rattle.std.specs.Prelude.{◌≡◌, IfOk};
+ghost use Rattle.sig_diff.specs.Differences.{IsLawful};
 
 use crate::{
     Boxed, Content, Diffs, Entries, Items, Kind, MapDiff, MapDiffs, Mapper, ReplayError, Tester,
