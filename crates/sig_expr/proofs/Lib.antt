@@ -1,0 +1,4 @@
+pub mod Awaiting
+pub mod Bounded
+pub mod Clamping
+pub mod Numbered

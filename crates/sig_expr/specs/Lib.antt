@@ -1,0 +1,8 @@
+pub mod Functions
+pub mod Trees
+pub mod Leaves
+pub mod Scratch
+pub mod Awaited
+pub mod Bounds
+pub mod Shapes
+pub mod Shows

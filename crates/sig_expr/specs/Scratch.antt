@@ -1,0 +1,79 @@
+-- The view from scratch: what an expression shows, where each leaf has a content.
+use Rattle.std.specs.Prelude.{ℤ, pos, ◌+ℤ◌, Bool, not, List, [], ◌∷◌, ◌++◌, map, length, get_or}
+use Rattle.std.specs.List.{filter, flat_map}
+use Rattle.std.specs.Option.{unwrap_or}
+use Rattle.std.specs.Ordering.{int_eq}
+use Rattle.sig_diff.specs.Entries.{value_at, keys_of, values_of, values_mapped}
+use Rattle.sig_diff.specs.Numbers.{class_of, clamped, total}
+use Rattle.sig_diff.specs.Sorting.{by_key, in_order}
+use Rattle.sig_diff.specs.declared.contents.Content.{Content}
+use Rattle.sig_diff.specs.declared.contents.Content.TheVariants.{Cell, Vector, Map}
+use Rattle.sig_expr.specs.Functions.{image, passes}
+use Rattle.sig_expr.specs.Trees.{MapTree, map_source, mapped_values, SigTree, cell, mapped_signal, deduped, switched, length_of, total_of, at_key, VecTree, vector, mapped, filtered, filtered_by, mapped_by, sorted, joined, flattened, picked, keys_in, values_in, SigTrees, no_signals, more_signals, VecTrees, no_lists, more_lists}
+
+-- a cell's number, a vector's list and a map's entries. A content of another kind counts as 0, and as empty
+abbrev pub number_in : Content → ℤ
+number_in (Cell x) = x
+number_in _ = pos 0
+
+abbrev pub list_in : Content → List ℤ
+list_in (Vector xs) = xs
+list_in _ = []
+
+abbrev pub entries_in : Content → List (ℤ × ℤ)
+entries_in (Map entries) = entries
+entries_in _ = []
+
+-- the part of a bank that a number chooses, by the number's class
+abbrev pub chosen : {A : Type 0} → List A → ℤ → A → A
+chosen parts x default = get_or parts (class_of (length parts) x) default
+
+abbrev pub signal_for : List ℤ → ℤ → ℤ
+signal_for signals x = chosen signals x (pos 0)
+
+abbrev pub list_for : List (List ℤ) → ℤ → List ℤ
+list_for lists x = chosen lists x []
+
+-- whether the signal of the number's class isn't 0
+abbrev pub is_let_in : List ℤ → ℤ → Bool
+is_let_in signals x = not (int_eq (signal_for signals x) (pos 0))
+
+-- the number plus the signal of its class
+abbrev pub raised_by : List ℤ → ℤ → ℤ
+raised_by signals x = clamped (x +ℤ signal_for signals x)
+
+module _ {L : Type 0} (s : L → Content) where
+  abbrev pub entries_of : MapTree L → List (ℤ × ℤ)
+  entries_of (map_source l) = entries_in (s l)
+  entries_of (mapped_values f m) = values_mapped (image f) (entries_of m)
+
+  abbrev mutual
+    pub value_of : SigTree L → ℤ
+    value_of (cell l) = number_in (s l)
+    value_of (mapped_signal f e) = image f (value_of e)
+    value_of (deduped e) = value_of e
+    value_of (switched e bank) = signal_for (signals_of bank) (value_of e)
+    value_of (length_of e) = pos (length (list_of e))
+    value_of (total_of e) = clamped (total (list_of e))
+    value_of (at_key key default m) = unwrap_or (value_at key (entries_of m)) default
+
+    pub list_of : VecTree L → List ℤ
+    list_of (vector l) = list_in (s l)
+    list_of (mapped f e) = map (image f) (list_of e)
+    list_of (filtered p e) = filter (passes p) (list_of e)
+    list_of (filtered_by e bank) = filter (is_let_in (signals_of bank)) (list_of e)
+    list_of (mapped_by e bank) = map (raised_by (signals_of bank)) (list_of e)
+    list_of (sorted f e) = in_order (by_key (image f)) (list_of e)
+    list_of (joined a b) = list_of a ++ list_of b
+    list_of (flattened e bank) = flat_map (list_for (lists_of bank)) (list_of e)
+    list_of (picked e bank) = list_for (lists_of bank) (value_of e)
+    list_of (keys_in m) = keys_of (entries_of m)
+    list_of (values_in m) = values_of (entries_of m)
+
+    pub signals_of : SigTrees L → List ℤ
+    signals_of no_signals = []
+    signals_of (more_signals e bank) = value_of e ∷ signals_of bank
+
+    pub lists_of : VecTrees L → List (List ℤ)
+    lists_of no_lists = []
+    lists_of (more_lists e bank) = list_of e ∷ lists_of bank
