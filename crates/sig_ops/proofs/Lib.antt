@@ -1,0 +1,4 @@
+pub mod Places
+pub mod Sizing
+pub mod Stepping
+pub mod Totals

@@ -1,0 +1,10 @@
+pub mod Turns
+pub mod Tables
+pub mod Signals
+pub mod Sizes
+pub mod TurnSteps
+pub mod MapTurns
+pub mod FilterTurns
+pub mod Filters
+pub mod Following
+pub mod FollowSteps
