@@ -1,7 +1,7 @@
 -- Where a key stands among a map's entries, and each change of the map as a change of the list at that place.
-use Rattle.std.proofs.Common.{◌≡◌, ◌∙◌, ℕ, zero, suc, ◌+◌, ◌<◌, ◌≤◌, ℤ, int_lt, int_cmp, int_eq, is_lt, is_eq, is_gt, Ordering, Less, Equal, Greater, Bool, true, false, cond, not, ◌&&◌, IsTrue, T, List, [], ◌∷◌, ◌++◌, length, map, take, drop, get_or, set, slice_get, insert, remove, None, Some, is_some, Result, Ok, Err, is_ok, MatchResult, refl, sym, ap, subst, zero-add, add-one, arith}
+use Rattle.std.proofs.Common.{◌≡◌, ◌∙◌, ℕ, zero, suc, ◌+◌, ◌<◌, ◌≤◌, ℤ, int_lt, int_cmp, int_eq, is_lt, is_eq, is_gt, Ordering, Less, Equal, Greater, Bool, true, false, cond, not, ◌&&◌, IsTrue, T, List, [], ◌∷◌, ◌++◌, length, get_or, set, slice_get, insert, remove, None, Some, is_some, Result, Ok, Err, is_ok, MatchResult, refl, sym, ap, subst, zero-add, add-one, arith}
 use Rattle.std.proofs.lemmas.Cmp.{int_cmp_total}
-use Rattle.std.proofs.lemmas.List.{map-append, map-set, take-map, drop-map}
+use Rattle.std.proofs.lemmas.List.{map-set}
 use Rattle.std.proofs.lemmas.List.Sorted.{searchable_from_sorted}
 use Rattle.std.proofs.lemmas.List.Sums.{sum_by-cons, count_by-le-length}
 use Rattle.std.proofs.lemmas.Map.Lookups.{exact_signed}
@@ -10,6 +10,7 @@ use Rattle.std.specs.FinMap.Entries.{below_all, is_sorted-put, is_sorted-where_k
 use Rattle.std.specs.List.Sorted.{IsBinarySearchResult, IsSearchInRange, IsSortedBy}
 use Rattle.std.specs.List.{AllWithin}
 use Rattle.std.specs.Ordering.{ordering_reverse}
+use Rattle.sig_diff.proofs.Images.{map_insert, map_remove}
 use Rattle.sig_diff.specs.Entries.{IsRising, IsAbove, rank, value_at, has_key, with_value, without, keys_of, values_of}
 
 -- ---- one key against another
@@ -67,14 +68,6 @@ less_through : (key between other : ℤ) (order : Ordering) → int_cmp key betw
 less_through key between other Less is up less = int_cmp_total.trans key between other is less
 less_through key between other Equal is up less = int_cmp_total.congr key between other is ∙ less
 less_through key between other Greater is up less = cc
-
--- ---- a function of each item
-
-map_insert : {A B : Type 0} (f : A → B) (xs : List A) (index : ℕ) (x : A) → map f (insert xs index x) ≡ insert (map f xs) index (f x)
-map_insert f xs index x = rw (map-append f (take index xs) (x ∷ drop index xs), take-map f index xs, drop-map f index xs) refl
-
-map_remove : {A B : Type 0} (f : A → B) (xs : List A) (index : ℕ) → map f (remove xs index) ≡ remove (map f xs) index
-map_remove f xs index = rw (map-append f (take index xs) (drop (suc index) xs), take-map f index xs, drop-map f (suc index) xs) refl
 
 module _ {V : Type 0} where
   -- ---- a key that is below those of all entries

@@ -1,4 +1,3 @@
 pub mod Places
 pub mod Sizing
-pub mod Stepping
 pub mod Totals

@@ -1,5 +1,5 @@
 use Rattle.std.proofs.Common.{rules}
-use Rattle.sig_ops.proofs.Stepping.{followed_next}
+use Rattle.sig_diff.proofs.Following.{followed_next}
 use Rattle.sig_ops.proofs.signals.LenOp.step.Goals as goal
 
 pub resized-len-requires : goal.resized-len-requires

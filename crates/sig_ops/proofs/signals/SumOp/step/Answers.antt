@@ -2,7 +2,7 @@ use Rattle.std.proofs.Common.{rules, ◌≡◌, to_z, of_z, w64}
 use Rattle.sig_diff.proofs.Following.{replay_steps}
 use Rattle.sig_diff.specs.Numbers.{clamped, total}
 use Rattle.sig_diff.specs.Replaying.{replayed}
-use Rattle.sig_ops.proofs.Stepping.{followed_next}
+use Rattle.sig_diff.proofs.Following.{followed_next}
 use Rattle.sig_ops.proofs.signals.SumOp.step.Goals as goal
 
 pub follow-requires-clause-lawful : goal.follow-requires-clause-lawful
