@@ -2,6 +2,7 @@
 use Rattle.std.proofs.Common.{◌≡◌, ◌∙◌, ℕ, zero, suc, ◌+◌, ◌-◌, ◌<◌, ◌≤◌, List, [], ◌∷◌, length, take, drop, insert, remove, filter, slice_get, slice_set, Bool, true, false, cond, if◌then◌else◌, Option, None, Some, refl, sym, ap, add-one, zero-add, arith}
 use Rattle.std.proofs.lemmas.List.{append-nil, length-take, take_all, drop_all}
 use Rattle.std.proofs.lemmas.List.Sums.{sum_by-cons, sum_by-take-le, count_by-le-length, length-filter}
+use Rattle.sig_diff.proofs.Rotated.{inserted_behind}
 use Rattle.sig_diff.specs.Differences.{moved, inserted}
 use Rattle.sig_diff.specs.Passing.{passes_at, passing_before}
 
@@ -147,10 +148,6 @@ pub passing_before_below_length : {T : Type 0} (test : T → Bool) (xs : List T)
 passing_before_below_length test xs index is = omega (arith, passing_before_more test xs index true is, passing_before_at_most_length test xs (index + 1))
 
 -- ---- an element moves
-
-inserted_behind : {T : Type 0} (y : T) (ys : List T) (index : ℕ) (item : Option T) → inserted (y ∷ ys) (suc index) item ≡ y ∷ inserted ys index item
-inserted_behind y ys index None = refl
-inserted_behind y ys index (Some x) = refl
 
 -- to move an element to its own place changes nothing
 pub moved_in_place : {T : Type 0} (xs : List T) (index : ℕ) → moved xs index index ≡ xs

@@ -5,4 +5,5 @@ pub mod Images
 pub mod Keeping
 pub mod Numbers
 pub mod Ranks
+pub mod Rotated
 pub mod Sorting

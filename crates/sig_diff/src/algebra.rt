@@ -27,7 +27,7 @@ pub fn apply<T: Copy + Eq>(list: &mut Items<T>, diff: &VecDiff<T>) -> Result<(),
     ensures err { OnErr result (list.new ≡ list.old) }
 {
     match diff {
-        VecDiff::Replace { values } => *list = values.copy()?,
+        VecDiff::Replace { values } => list.assign(values.as_slice())?,
         VecDiff::InsertAt { index, value } => list.insert(*index as usize, *value)?,
         VecDiff::UpdateAt { index, value } => list.set(*index as usize, *value),
         VecDiff::RemoveAt { index } => {

@@ -119,6 +119,22 @@ impl<V: Copy> Entries<V> {
         Ok(Entries { entries })
     }
 
+    /// Becomes another map, in the room that it has where that fits. After a refusal the map is as it was.
+    pub fn assign(&mut self, other: &Entries<V>) -> Result<(), NoMemory>
+        ensures ok { OnOk result (self.new ≡ other.now) }
+        ensures err { OnErr result (self.new ≡ self.old) }
+    {
+        if other.len() > self.entries.capacity() {
+            *self = other.copy()?;
+            return Ok(());
+        }
+        self.entries.clear();
+        match self.entries.extend_from_slice(other.as_slice()) {
+            Ok(()) => Ok(()),
+            Err(_) => unreachable!(),
+        }
+    }
+
     pub fn copy(&self) -> Result<Entries<V>, NoMemory>
         ensures { IfOk result (λ copy. copy ≡ self.now) }
     {

@@ -118,17 +118,13 @@ impl<T: Drop> Items<T> {
     }
 
     /// Takes the item at one index out, and puts it at another index of the list without it. It takes no
-    /// memory, since the list keeps the room that the item left.
+    /// memory, and moves only the items between the two.
     pub fn shift(&mut self, old_index: usize, new_index: usize)
         requires old_index { old_index < length self.old }
         requires new_index { new_index < length self.old }
         ensures { self.new ≡ moved self.old old_index new_index }
     {
-        let item = self.items.remove(old_index);
-        match self.items.insert(new_index, item) {
-            Ok(()) => {}
-            Err(_) => unreachable!(),
-        }
+        shift(self.items.as_mut_slice(), old_index, new_index);
     }
 
     /// Takes the last item out, where there is one.
@@ -148,11 +144,41 @@ impl<T: Drop> Items<T> {
 }
 
 impl<T: Copy> Items<T> {
+    /// Becomes a list of these items, in the room that it has where they fit. After a refusal the list is as it
+    /// was.
+    pub fn assign(&mut self, items: &[T]) -> Result<(), NoMemory>
+        ensures ok { OnOk result (self.new ≡ items.now) }
+        ensures err { OnErr result (self.new ≡ self.old) }
+    {
+        if items.len() > self.items.capacity() {
+            self.items = Vec::from_slice(self.alloc(), items)?;
+            return Ok(());
+        }
+        self.items.clear();
+        match self.items.extend_from_slice(items) {
+            Ok(()) => Ok(()),
+            Err(_) => unreachable!(),
+        }
+    }
+
     pub fn copy(&self) -> Result<Items<T>, NoMemory>
         ensures { IfOk result (λ copy. copy ≡ self.now) }
     {
         let alloc = *self.items.allocator();
         let items = Vec::from_slice(alloc, self.items.as_slice())?;
         Ok(Items { items })
+    }
+}
+
+/// Moves an item, and those between its places by one.
+fn shift<T>(items: &mut [T], old_index: usize, new_index: usize)
+    requires old_index { old_index < length items.old }
+    requires new_index { new_index < length items.old }
+    ensures { items.new ≡ moved items.old old_index new_index }
+{
+    if old_index <= new_index {
+        items[old_index..=new_index].rotate_left(1);
+    } else {
+        items[new_index..=old_index].rotate_right(1);
     }
 }

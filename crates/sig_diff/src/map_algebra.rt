@@ -23,7 +23,7 @@ pub fn map_apply<V: Copy + Eq>(map: &mut Entries<V>, diff: &MapDiff<V>) -> Resul
     ensures err { OnErr result (map.new ≡ map.old) }
 {
     match diff {
-        MapDiff::Replace { entries } => *map = entries.copy()?,
+        MapDiff::Replace { entries } => map.assign(entries)?,
         MapDiff::Insert { key, value } => map.insert(*key, *value)?,
         MapDiff::Update { key, value } => map.update(*key, *value),
         MapDiff::Remove { key } => {
