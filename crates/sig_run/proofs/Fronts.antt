@@ -17,8 +17,7 @@ use Rattle.sig_run.specs.Script.{edits_in, edit_from, all_edits, writers_of}
 use Rattle.sig_run.specs.Stages.{is_done}
 use Rattle.sig_run.proofs.States.{is_closed_append, next_is_edit, next_is_leave, nothing_left, length_all_edits}
 use Rattle.sig_run.proofs.Steps.{rest_next}
-use Rattle.sig_run.proofs.Turns.{AreSimple}
-use Rattle.sig_run.proofs.Whole.{entry_after, whole, goes_on, length_all, simple_front, whole_is_simple, all_appended_append}
+use Rattle.sig_run.proofs.Whole.{entry_after, whole, goes_on, length_all, all_appended_append}
 
 -- what is left to append gives the whole history, and this one is closed where the writer is done
 pub record IsFront (script : FirstScript) (history : List Entry) : Type 0 where
@@ -44,11 +43,6 @@ front_end script history front = let more = more_of script history front in rw (
 
 pub front_passed : (script : FirstScript) (history : List Entry) (at : ℕ) → IsFront script history → drop at (take (length history) (whole script)) ≡ drop at history
 front_passed script history at front = let more = more_of script history front in rw (more.1, take-append_seam) refl
-
-pub front_is_simple : (script : FirstScript) (history : List Entry) → IsFront script history → AreSimple history
-front_is_simple script history front =
-    let more = more_of script history front in
-    let simple : AreSimple (history ++ more.0) = rw (← more.1) (whole_is_simple script) in simple_front history more.0 simple
 
 -- a closed history is the whole one
 pub front_closed : (script : FirstScript) (history : List Entry) → IsFront script history → is_closed (writers_of (edits_in script)) history ≡ true → history ≡ whole script

@@ -1,6 +1,4 @@
 pub mod Codes
-pub mod Lengths
-pub mod Places
 pub mod States
 pub mod Steps
 pub mod Turns

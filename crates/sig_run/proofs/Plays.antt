@@ -1,5 +1,5 @@
 -- The report of the play is lawful.
-use Rattle.std.proofs.Common.{◌≡◌, ◌∙◌, ℕ, List, [], true, sym, refl}
+use Rattle.std.proofs.Common.{◌≡◌, ◌∙◌, ℕ, List, [], length, true, ap, sym, refl}
 use Rattle.sig_script.specs.declared.script.FirstScript.{FirstScript}
 use Rattle.sig_run.specs.declared.report.Report.{Report}
 use Rattle.sig_run.specs.Flow.{is_at_least}
@@ -34,6 +34,13 @@ lawful_of script p done ended =
 
 pub play_is_lawful : (script : FirstScript) → Lawful script (play script)
 play_is_lawful script = let out = played_out_is_done script in lawful_of script (played_out script) out.0 out.1
+
+-- and its view ends at the end of the history
+pub play_ends : (script : FirstScript) (p : Played) → p ≡ played_out script → p.view.position ≡ length p.history
+play_ends script p is =
+    let out = played_out_is_done script in
+    let rows = over script (played_out script) out.0 out.1 in
+    rw is (rows.end ∙ ap length (sym out.0.1))
 
 pub reports_of_play : (script : FirstScript) (report : Report) (text : List ℕ) → report ≡ play script → text ≡ report_text script report → IsReportOf script text
 reports_of_play script report text played is_text = record { report = report; lawful = rw played (play_is_lawful script); played = played; is_text = is_text }

@@ -1,5 +1,5 @@
 -- How sound rows go on by one more row.
-use Rattle.std.proofs.Common.{◌≡◌, ◌∙◌, ℕ, ℤ, List, [], ◌∷◌, ◌++◌, Bool, true, refl}
+use Rattle.std.proofs.Common.{◌≡◌, ◌∙◌, ℕ, ℤ, List, [], ◌∷◌, ◌++◌, length, Bool, true, refl}
 use Rattle.sig_run.specs.declared.report.Row.{Row}
 use Rattle.sig_run.specs.declared.report.Body.{Body}
 use Rattle.sig_run.specs.declared.report.Body.TheVariants.{Vector, Ended}
@@ -60,6 +60,7 @@ pub record IsOpen (test : ℤ → Bool) (source : Source) (position : ℕ) (rows
 pub record IsOver (test : ℤ → Bool) (source : Source) (position : ℕ) (rows : List Row) : Type 0 where
   pub sound : AreSound test source rows
   pub complete : are_complete rows ≡ true
+  pub end : position ≡ length source.history
   pub shown : replay_of [] rows ≡ view_of test (state_at source position)
 
 pub next_is_open : (test : ℤ → Bool) (source : Source) (position : ℕ) (first : Row) (rows : List Row) (row : Row) (next : ℕ) → IsOpen test source position (first ∷ rows)
@@ -77,5 +78,6 @@ pub next_is_over : (test : ℤ → Bool) (source : Source) (position : ℕ) (fir
 next_is_over test source position first rows row is body ended = record {
   sound = (is.sound.0, sound_after_append test source (position_of first.at) (shown_after [] first.body) rows row is.are_open.1 is.sound.1 (rw (is.last, is.shown, body) ended));
   complete = complete_append (first ∷ rows) row ∙ rw body refl;
+  end = ended.end;
   shown = replay_of_append (shown_after [] first.body) rows row ∙ rw (is.shown, body) refl;
 }

@@ -2,6 +2,7 @@
 use Rattle.std.proofs.Common.{◌≡◌, ◌∙◌, ◌⊎◌, inl, inr, ℕ, ◌<◌, ◌≤◌, ℤ, List, [], ◌∷◌, length, take, drop, filter, nat_lt, if◌then◌else◌, Bool, true, false, ap, sym, refl, arith}
 use Rattle.std.proofs.lemmas.Bool.Decides.{nat_tests}
 use Rattle.std.proofs.Math.Nat.{le_trans}
+use Rattle.sig_ops.specs.Tables.{filter_gives}
 use Rattle.sig_script.specs.declared.script.FirstScript.{FirstScript}
 use Rattle.sig_script.specs.declared.script.FirstEvent.{FirstEvent}
 use Rattle.sig_script.specs.declared.script.FirstEvent.TheVariants.{Writer, View}
@@ -9,19 +10,18 @@ use Rattle.sig_run.specs.declared.sources.Entry.{Entry}
 use Rattle.sig_run.specs.declared.report.Row.{Row}
 use Rattle.sig_run.specs.declared.report.Body.{Body}
 use Rattle.sig_run.specs.declared.report.Body.TheVariants.{Ended}
-use Rattle.sig_run.specs.Filtering.{filter_gives}
 use Rattle.sig_run.specs.Flow.{is_at_least, flow}
 use Rattle.sig_run.specs.Histories.{is_closed}
 use Rattle.sig_run.specs.Playing.{Watched, Played, opened, content_after, written, written_out, with_row, first_body, next_body, ended_row, polled_by, polled, taken, scheduled, played_out}
 use Rattle.sig_run.specs.Rows.{state_at, view_of, IsNextRow}
 use Rattle.sig_run.specs.Script.{edits_in, writers_of, cap_of}
 use Rattle.sig_run.specs.Stages.{is_done}
-use Rattle.sig_run.proofs.Fronts.{IsFront, source_of, front_within, front_state, front_end, front_passed, front_is_simple, front_closed, front_start, front_written, front_whole, whole_is_closed}
+use Rattle.sig_run.proofs.Fronts.{IsFront, source_of, front_within, front_state, front_end, front_passed, front_closed, front_start, front_written, front_whole, whole_is_closed}
 use Rattle.sig_run.proofs.RowSteps.{IsOpen, IsOver, next_is_open, next_is_over}
 use Rattle.sig_run.proofs.States.{state_split}
 use Rattle.sig_run.proofs.Steps.{rest_next, written_none}
 use Rattle.sig_run.proofs.Turns.{Leads, flow_leads}
-use Rattle.sig_run.proofs.Whole.{whole, simple_drop}
+use Rattle.sig_run.proofs.Whole.{whole}
 
 -- the rows of the view at a moment: none yet, or open at its position, or over
 abbrev pub IsPhase : FirstScript → ℕ → Bool → List Row → Type 0
@@ -60,7 +60,7 @@ next_row script history position front higher =
     let at_position : state_at (source_of script) position ≡ before = front_state script history position front (omega arith) in
     let at_end : state_at (source_of script) (length history) ≡ after = front_end script history front in
     let leads : Leads (filter test before) (flow (filter_gives test) before after cap (drop position history)) (filter test after) =
-    flow_leads test before after cap (drop position history) (simple_drop position history (front_is_simple script history front)) (sym (state_split script.start cap history position)) in
+    flow_leads test before after cap (drop position history) (sym (state_split script.start cap history position)) in
     record {
       one_position = refl;
       higher = higher;

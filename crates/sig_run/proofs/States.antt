@@ -1,4 +1,4 @@
--- How states and closedness go along a history.
+-- How states, legality and closedness go along a history.
 use Rattle.std.proofs.Common.{◌≡◌, ◌∙◌, ℕ, ◌+◌, ◌<◌, ◌==◌, ℤ, List, [], ◌∷◌, ◌++◌, length, map, take, drop, get_or, slice_get, option_map, zero, suc, true, false, Some, None, ap, refl, eq-eqb, arith}
 use Rattle.std.proofs.lemmas.Bool.Decides.{nat_tests}
 use Rattle.std.proofs.lemmas.Grind.{common_steps}
@@ -10,7 +10,7 @@ use Rattle.sig_script.specs.declared.script.FirstEdit.{FirstEdit}
 use Rattle.sig_run.specs.declared.sources.Edit.{Edit}
 use Rattle.sig_run.specs.declared.sources.Edit.TheVariants.{Leave}
 use Rattle.sig_run.specs.declared.sources.Entry.{Entry}
-use Rattle.sig_run.specs.Histories.{edited, state, is_leave, ends_with_leave, own_entries, is_closed}
+use Rattle.sig_run.specs.Histories.{edited, reply_of, state, IsLegal, is_leave, ends_with_leave, own_entries, is_closed}
 use Rattle.sig_run.specs.Stages.{is_done}
 use Rattle.sig_run.specs.Script.{edit_from, all_edits, writers_of}
 
@@ -20,6 +20,17 @@ state_append xs cap (entry ∷ front) back = state_append (edited xs cap entry.e
 
 pub state_split : (xs : List ℤ) (cap : ℕ) (entries : List Entry) (at : ℕ) → state (state xs cap (take at entries)) cap (drop at entries) ≡ state xs cap entries
 state_split xs cap entries at = rw (← (state_append xs cap (take at entries) (drop at entries)), take-append-drop) refl
+
+-- an entry whose reply is that of the content before it goes on with a legal history
+pub legal_append : (xs : List ℤ) (cap : ℕ) (entries : List Entry) (entry : Entry) → IsLegal xs cap entries → entry.reply ≡ reply_of (state xs cap entries) cap entry.edit → IsLegal xs cap (entries ++ entry ∷ [])
+legal_append xs cap [] entry legal reply = (reply, tt)
+legal_append xs cap (first ∷ entries) entry legal reply = (legal.0, legal_append (edited xs cap first.edit) cap entries entry legal.1 reply)
+
+-- the back of a legal history is legal from the state after its front on
+pub legal_drop : (xs : List ℤ) (cap : ℕ) (entries : List Entry) (at : ℕ) → IsLegal xs cap entries → IsLegal (state xs cap (take at entries)) cap (drop at entries)
+legal_drop xs cap entries zero legal = legal
+legal_drop xs cap [] (suc at) legal = tt
+legal_drop xs cap (entry ∷ entries) (suc at) legal = legal_drop (edited xs cap entry.edit) cap entries at legal.1
 
 pub ends_with_leave_append : (entries : List Entry) (entry : Entry) → ends_with_leave (entries ++ entry ∷ []) ≡ is_leave entry.edit
 ends_with_leave_append [] entry = refl

@@ -15,13 +15,13 @@ use Rattle.sig_run.specs.Playing.{Played, written, written_out}
 use Rattle.sig_run.specs.Watching.{Follows}
 use Rattle.sig_run.specs.Stages.{IsInStep, played_of, is_done}
 use Rattle.sig_run.specs.Script.{edits_in, edit_from, all_edits, cap_of}
-use Rattle.sig_run.proofs.States.{state_append, state_split, is_closed_append, next_is_edit, next_is_leave, next_is_some, next_is_none, drop_at}
+use Rattle.sig_run.proofs.States.{legal_append, legal_drop, state_append, state_split, is_closed_append, next_is_edit, next_is_leave, next_is_some, next_is_none, drop_at}
 
 pub follows : (script : FirstScript) (stage : Stage) → IsInStep script stage → Follows stage.source stage.view
 follows script stage step = record {
-  cap = step.cap ∙ sym step.view_cap;
   not_ahead = step.not_ahead;
-  behind = rw (step.followed, step.view_cap) (state_split script.start (cap_of script.start (edits_in script)) stage.source.history stage.view.position ∙ sym step.content);
+  behind = rw (step.followed, step.cap) (state_split script.start (cap_of script.start (edits_in script)) stage.source.history stage.view.position ∙ sym step.content);
+  legal = rw (step.followed, step.cap) (legal_drop script.start (cap_of script.start (edits_in script)) stage.source.history stage.view.position step.legal);
 }
 
 -- the stage with a source after the writer's event is in step, and as the play has it
@@ -40,9 +40,9 @@ advances script old source edit step some has next leaves =
         few = step.few;
         cap = has.cap ∙ step.cap;
         room = has.room ∙ step.room;
-        view_cap = step.view_cap;
         least = step.least;
         content = rw (has.content, has.history, state_append script.start (cap_of script.start (edits_in script)) old.source.history (entry ∷ []), step.content, step.cap) refl;
+        legal = rw has.history (legal_append script.start (cap_of script.start (edits_in script)) old.source.history entry step.legal (rw (step.content, step.cap) refl));
         not_ahead = rw (has.history, length-append) (omega (arith, step.not_ahead));
         followed = rw (has.history, take-append-le) step.followed;
         closed = rw (has.history, is_closed_append (edits_in script) old.source.history entry some refl, nonzero, length-append) leaves;

@@ -1,5 +1,5 @@
 -- One edit of a vector: what it gives, what it answers, and what a history of edits means.
-use Rattle.std.specs.Prelude.{ℕ, ◌+◌, ◌-◌, ◌&&◌, ℤ, pos, List, length, slice_index_or, Bool, false, not, nat_lt, if◌then◌else◌}
+use Rattle.std.specs.Prelude.{ℕ, ◌+◌, ◌-◌, ◌&&◌, ℤ, pos, List, length, slice_index_or, Bool, true, false, not, nat_lt, if◌then◌else◌}
 use Rattle.sig_diff.specs.Differences.{is_lawful}
 use Rattle.sig_diff.specs.declared.differences.VecDiff.{VecDiff}
 use Rattle.sig_diff.specs.declared.differences.VecDiff.TheVariants.{Replace, InsertAt, UpdateAt, RemoveAt, Move, Push, Pop, Clear}
@@ -35,6 +35,13 @@ answer_to xs (Move old_index new_index) = Fine
 answer_to xs (Push value) = Fine
 answer_to xs Pop = Was (item_at xs (length xs - 1))
 answer_to xs Clear = Fine
+
+-- whether a difference with this reply took effect
+abbrev pub took_effect : Reply → Bool
+took_effect Fine = true
+took_effect (Was old) = true
+took_effect (OutOfRange len) = false
+took_effect (Long len) = false
 
 -- the reply to a difference: out of range is looked at before too long
 abbrev pub reply_to : List ℤ → ℕ → VecDiff ℤ → Reply

@@ -1,8 +1,8 @@
 -- What a view gives as its leaf goes from one position to another.
-use Rattle.std.specs.Prelude.{ℕ, ℤ, List, [], ◌∷◌, ◌++◌, Bool, Option, int_le}
-use Rattle.std.specs.Option.{option_to_list}
+use Rattle.std.specs.Prelude.{ℕ, ℤ, List, Bool, int_le}
 use Rattle.sig_diff.specs.Differences.{applied}
 use Rattle.sig_diff.specs.declared.differences.VecDiff.{VecDiff}
+use Rattle.sig_ops.specs.Following.{all_given}
 use Rattle.sig_run.specs.Histories.{entering}
 use Rattle.sig_run.specs.declared.sources.Entry.{Entry}
 
@@ -10,11 +10,7 @@ use Rattle.sig_run.specs.declared.sources.Entry.{Entry}
 abbrev pub is_at_least : ℤ → ℤ → Bool
 is_at_least least number = int_le least number
 
--- what an operator gives for differences one after another, from a list on
-abbrev pub through : (List ℤ → VecDiff ℤ → Option (VecDiff ℤ)) → List ℤ → List (VecDiff ℤ) → List (VecDiff ℤ)
-through gives xs [] = []
-through gives xs (diff ∷ diffs) = option_to_list (gives xs diff) ++ through gives (applied xs diff) diffs
-
--- what the view of one vector gives as it passes some entries, by the contents before and after them
-abbrev pub flow : (List ℤ → VecDiff ℤ → Option (VecDiff ℤ)) → List ℤ → List ℤ → ℕ → List Entry → List (VecDiff ℤ)
-flow gives before after cap passed = through gives before (entering before after cap passed)
+-- what the view of one vector gives as it passes some entries, by the contents before and after them, and by what it gives for one
+-- difference of a list
+abbrev pub flow : (List ℤ → VecDiff ℤ → List (VecDiff ℤ)) → List ℤ → List ℤ → ℕ → List Entry → List (VecDiff ℤ)
+flow gives before after cap passed = all_given applied gives before (entering before after cap passed)

@@ -1,6 +1,5 @@
 pub mod Edits
 pub mod Histories
-pub mod Filtering
 pub mod Flow
 pub mod Script
 pub mod Playing

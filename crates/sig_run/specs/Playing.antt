@@ -1,6 +1,7 @@
 -- The play of a script: one fold over the schedule, then over what is left.
 use Rattle.std.specs.Prelude.{ℕ, ℤ, List, [], ◌∷◌, ◌++◌, length, take, drop, filter, slice_get, Bool, true, false, nat_lt, if◌then◌else◌, Option, None, Some}
 use Rattle.sig_diff.specs.declared.differences.VecDiff.TheVariants.{Replace}
+use Rattle.sig_ops.specs.Tables.{filter_gives}
 use Rattle.sig_script.specs.declared.script.FirstScript.{FirstScript}
 use Rattle.sig_script.specs.declared.script.FirstEvent.{FirstEvent}
 use Rattle.sig_script.specs.declared.script.FirstEvent.TheVariants.{Writer, View}
@@ -10,7 +11,6 @@ use Rattle.sig_run.specs.declared.report.Report.{Report}
 use Rattle.sig_run.specs.declared.report.Row.{Row}
 use Rattle.sig_run.specs.declared.report.Body.{Body}
 use Rattle.sig_run.specs.declared.report.Body.TheVariants.{Vector, Ended}
-use Rattle.sig_run.specs.Filtering.{filter_gives}
 use Rattle.sig_run.specs.Flow.{is_at_least, flow}
 use Rattle.sig_run.specs.Histories.{state, reply_of, is_closed}
 use Rattle.sig_run.specs.Script.{edits_in, all_edits, writers_of, cap_of}

@@ -2,11 +2,11 @@
 use Rattle.std.specs.Prelude.{◌≡◌, ℕ, ◌<◌, ◌≤◌, ℤ, List, [], ◌∷◌, length, take, drop, filter, Bool, true, false}
 use Rattle.sig_diff.specs.declared.differences.VecDiff.{VecDiff}
 use Rattle.sig_diff.specs.declared.differences.VecDiff.TheVariants.{Replace}
+use Rattle.sig_ops.specs.Tables.{filter_gives}
 use Rattle.sig_run.specs.declared.sources.Entry.{Entry}
 use Rattle.sig_run.specs.declared.report.Row.{Row}
 use Rattle.sig_run.specs.declared.report.Body.{Body}
 use Rattle.sig_run.specs.declared.report.Body.TheVariants.{Vector, Ended}
-use Rattle.sig_run.specs.Filtering.{filter_gives}
 use Rattle.sig_run.specs.Flow.{flow}
 use Rattle.sig_run.specs.Histories.{state, is_closed}
 use Rattle.sig_diff.specs.Replaying.{AreLawful, replayed}

@@ -1,7 +1,6 @@
 //! The program below its `main`: the words of the command line, playing a script, and the report.
 #![tactic(auto)]
 
-mod filtering;
 mod gate;
 mod playing;
 mod program;

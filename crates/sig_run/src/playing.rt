@@ -5,7 +5,7 @@ ghost use Rattle.sig_run.specs.Playing.{play};
 
 use crate::report::{Report, SourceReport, ViewReport};
 use crate::sources::{Edit, SourceState};
-use crate::views::ViewState;
+use crate::views::{AtLeast, ViewState};
 use sig_diff::{NoMemory, VecDiff, passing};
 use sig_script::{FirstEdit, FirstEvent, FirstScript};
 use std::alloc::Global;
@@ -63,7 +63,8 @@ fn is_push(edit: FirstEdit) -> bool
 fn cap_of(script: &FirstScript, edits: &[FirstEdit]) -> u32
     requires start { length script.now.start ≤ 4096 }
     requires edits { length edits.now ≤ 63 }
-    ensures { result ≡ cap_of script.now.start edits.now }
+    ensures cap { result ≡ cap_of script.now.start edits.now }
+    ensures short { result ≤ 65536 }
 {
     let pushed = edits.iter().filter(|&&edit| is_push(edit)).count();
     (script.start.len() + pushed).max(1) as u32
@@ -90,7 +91,7 @@ impl Stage {
         let room = edits.len() as u32 + 1;
         Ok(Stage {
             source: SourceState::new(alloc, &script.start, cap, room)?,
-            view: ViewState::new(alloc, script.least, &script.start, cap)?,
+            view: ViewState::new(alloc, script.least, &script.start)?,
         })
     }
 
@@ -162,7 +163,8 @@ impl Stage {
     }
 
     fn report(self, alloc: Global, script: &FirstScript) -> Result<Report, NoMemory>
-        requires { IsInStep script.now self }
+        requires step { IsInStep script.now self }
+        requires end { self.view.position ≡ length self.source.history }
         ensures report { IfOk result (λ report. report ≡ reported script.now (played_of self)) }
         ensures few { IfOk result (λ report. length report.source.history ≤ 64) }
     {
@@ -172,12 +174,10 @@ impl Stage {
             history,
             ..
         } = source;
-        let ViewState {
-            test,
-            content: shown,
-            rows,
-            ..
-        } = view;
+        let test = AtLeast {
+            least: script.least,
+        };
+        let shown = passing(alloc, &test, content.as_slice())?;
         Ok(Report {
             source: SourceReport {
                 name: script.source.copy()?,
@@ -187,8 +187,8 @@ impl Stage {
             },
             view: ViewReport {
                 name: script.view.copy()?,
-                rows,
-                last: passing(alloc, &test, shown.as_slice())?,
+                rows: view.rows,
+                last: shown,
             },
         })
     }

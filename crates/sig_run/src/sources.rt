@@ -43,6 +43,7 @@ pub struct SourceState {
     pub content: Items<i64>,
     pub history: History,
     ghost within_cap: { length content ≤ cap },
+    ghost short: { cap ≤ 65536 },
     ghost within_room: { length history ≤ room },
 }
 
@@ -56,7 +57,8 @@ impl SourceState {
         cap: u32,
         room: u32,
     ) -> Result<SourceState, NoMemory>
-        requires { length start.now ≤ cap }
+        requires within { length start.now ≤ cap }
+        requires short { cap ≤ 65536 }
         ensures { IfOk result (λ source. (source.cap ≡ cap) × (source.room ≡ room)
             × (source.content ≡ start.now) × (source.history ≡ [])) }
     {
@@ -120,7 +122,7 @@ fn is_long(diff: &VecDiff<i64>, len: u32, cap: u32) -> bool
 }
 
 /// Whether a difference changes a vector of this length and cap.
-pub fn takes_effect(diff: &VecDiff<i64>, len: u32, cap: u32) -> bool
+fn takes_effect(diff: &VecDiff<i64>, len: u32, cap: u32) -> bool
     ensures { result ≡ takes_effect diff.now len cap }
 {
     is_lawful(diff, len) && !is_long(diff, len, cap)

@@ -1,15 +1,15 @@
 ghost use Rattle.std.specs.Prelude.{◌≡◌, ◌≤◌, [], ◌∷◌, ◌++◌, length, drop, IfOk, OnOk, true, false};
-ghost use Rattle.std.specs.Option.{option_to_list};
 ghost use Rattle.sig_diff.specs.Differences.{applied};
-ghost use Rattle.sig_run.specs.Edits.{takes_effect};
-ghost use Rattle.sig_run.specs.Filtering.{filter_gives};
-ghost use Rattle.sig_run.specs.Flow.{is_at_least, through};
-ghost use Rattle.sig_run.specs.Histories.{logged_by, state};
+ghost use Rattle.sig_ops.specs.Following.{all_given};
+ghost use Rattle.sig_ops.specs.Tables.{filter_gives};
+ghost use Rattle.sig_run.specs.Edits.{took_effect};
+ghost use Rattle.sig_run.specs.Flow.{is_at_least};
+ghost use Rattle.sig_run.specs.Histories.{IsLegal, logged_by, state};
 
-use crate::filtering::filtered;
 use crate::report::{Body, Row, Rows};
-use crate::sources::{Edit, Entry, SourceState, takes_effect};
-use sig_diff::{Diffs, Items, NoMemory, Tester, TryCopy, VecDiff, apply, passing};
+use crate::sources::{Edit, Reply, SourceState};
+use sig_diff::{Diffs, Items, NoMemory, Tester, VecDiff};
+use sig_ops::{FilterOp, VecOp};
 use std::alloc::Global;
 
 /// The most entries that one row follows one by one. A view that is further behind catches up at once.
@@ -36,16 +36,12 @@ impl Tester<i64> for AtLeast {
 /// A view that keeps the numbers of a vector from a bound on.
 #[derive(Debug, Drop)]
 pub struct ViewState {
-    pub test: AtLeast,
-    /// The cap of the vector.
-    pub cap: u32,
+    /// The filter of the vector's content at the position.
+    pub filter: FilterOp<i64, AtLeast>,
     /// How many entries of the vector's history it has followed.
     pub position: u32,
-    /// The vector's content at that position.
-    pub content: Items<i64>,
     pub rows: Rows,
     pub is_ended: bool,
-    ghost within_cap: { length content ≤ cap },
 }
 
 impl ViewState {
@@ -53,23 +49,17 @@ impl ViewState {
     ghost use Rattle.sig_run.specs.Watching.{watched_of, Follows, KeepsRows, MovesToEnd};
 
     /// The view before its first row, at the start of the vector.
-    pub fn new(
-        alloc: Global,
-        least: i64,
-        start: &Items<i64>,
-        cap: u32,
-    ) -> Result<ViewState, NoMemory>
-        requires { length start.now ≤ cap }
-        ensures settings { IfOk result (λ view. (view.test.least ≡ least) × (view.cap ≡ cap)
-            × (view.content ≡ start.now)) }
+    pub fn new(alloc: Global, least: i64, start: &Items<i64>) -> Result<ViewState, NoMemory>
+        requires { length start.now ≤ 65536 }
+        ensures filter { IfOk result (λ view. (view.filter.tester.least ≡ least) × (view.filter.items ≡ start.now)) }
         ensures fresh { IfOk result (λ view. watched_of view
             ≡ record { position = 0; rows = []; is_ended = false }) }
     {
+        let mut filter = FilterOp::new(alloc, AtLeast { least });
+        filter.start(start)?;
         Ok(ViewState {
-            test: AtLeast { least },
-            cap,
+            filter,
             position: 0,
-            content: start.copy()?,
             rows: Items::new(alloc),
             is_ended: false,
         })
@@ -85,10 +75,10 @@ impl ViewState {
     ) -> Result<(), NoMemory>
         requires { Follows source.now self.old }
         ensures follows { OnOk result (Follows source.now self.new) }
-        ensures settings { (self.new.test ≡ self.old.test) × (self.new.cap ≡ self.old.cap) }
+        ensures test { OnOk result (self.new.filter.tester ≡ self.old.filter.tester) }
         ensures polled { OnOk result (watched_of self.new
-            ≡ polled_by (is_at_least self.old.test.least) self.old.content source.now.content
-            self.old.cap source.now.history is_closed (watched_of self.old)) }
+            ≡ polled_by (is_at_least self.old.filter.tester.least) self.old.filter.items source.now.content
+            source.now.cap source.now.history is_closed (watched_of self.old)) }
         ensures content { OnOk result (MovesToEnd source.now self.old self.new) }
     {
         let count = source.count();
@@ -112,17 +102,15 @@ impl ViewState {
 
     /// The whole list as one difference, at the end of the history.
     fn restart(&mut self, alloc: Global, source: &SourceState) -> Result<Body, NoMemory>
-        requires { source.now.cap ≡ self.old.cap }
         ensures body { IfOk result (λ body. body
-            ≡ first_body (is_at_least self.old.test.least) source.now.content) }
-        ensures content { OnOk result (self.new.content ≡ source.now.content) }
-        ensures stays { KeepsRows self.old self.new }
+            ≡ first_body (is_at_least self.old.filter.tester.least) source.now.content) }
+        ensures content { OnOk result (self.new.filter.items ≡ source.now.content) }
+        ensures stays { OnOk result (KeepsRows self.old self.new) }
     {
         let mut given = Diffs::new(alloc);
         given.push(VecDiff::Replace {
-            values: passing(alloc, &self.test, source.content.as_slice())?,
+            values: self.filter.start(&source.content)?,
         })?;
-        self.content = source.content.copy()?;
         Ok(Body::Vector(given))
     }
 
@@ -130,70 +118,52 @@ impl ViewState {
     fn follow(&mut self, alloc: Global, source: &SourceState) -> Result<Body, NoMemory>
         requires { Follows source.now self.old }
         ensures body { IfOk result (λ body. body
-            ≡ next_body (is_at_least self.old.test.least) self.old.content source.now.content
-            self.old.cap (drop self.old.position source.now.history)) }
-        ensures content { OnOk result (self.new.content ≡ source.now.content) }
-        ensures stays { KeepsRows self.old self.new }
+            ≡ next_body (is_at_least self.old.filter.tester.least) self.old.filter.items source.now.content
+            source.now.cap (drop self.old.position source.now.history)) }
+        ensures content { OnOk result (self.new.filter.items ≡ source.now.content) }
+        ensures stays { OnOk result (KeepsRows self.old self.new) }
     {
-        let entries = &source.history.as_slice()[self.position as usize..];
-        if entries.len() > MOST_ENTRIES {
+        if source.history.len() - self.position as usize > MOST_ENTRIES {
             return self.restart(alloc, source);
         }
-        let (test, cap) = (self.test, self.cap);
-        let given = flow(alloc, &test, cap, &mut self.content, entries)?;
+        let given = flow(alloc, &mut self.filter, source, self.position)?;
         Ok(Body::Vector(given))
     }
 }
 
-/// What the filter gives for some entries one after another. The content goes from the one before them to
-/// the one after them.
+/// What the filter gives for the entries of a vector's history from a position on, one after another.
 fn flow(
     alloc: Global,
-    test: &AtLeast,
-    cap: u32,
-    content: &mut Items<i64>,
-    entries: &[Entry],
+    filter: &mut FilterOp<i64, AtLeast>,
+    source: &SourceState,
+    position: u32,
 ) -> Result<Diffs<i64>, NoMemory>
-    requires { length content.old ≤ cap }
-    ensures within { length content.new ≤ cap }
-    ensures content { OnOk result (content.new ≡ state content.old cap entries.now) }
+    requires within { position ≤ length source.now.history }
+    requires legal { IsLegal filter.old.items source.now.cap (drop position source.now.history) }
+    ensures test { OnOk result (filter.new.tester ≡ filter.old.tester) }
+    ensures content { OnOk result (filter.new.items ≡ state filter.old.items source.now.cap (drop position source.now.history)) }
     ensures given { IfOk result (λ given. given
-        ≡ through (filter_gives (is_at_least test.now.least)) content.old (logged_by content.old cap entries.now)) }
+        ≡ all_given applied (filter_gives (is_at_least filter.old.tester.least)) filter.old.items
+        (logged_by filter.old.items source.now.cap (drop position source.now.history))) }
 {
     let mut given = Diffs::new(alloc);
-    'entries: for entry in entries {
-        let len = content.len() as u32;
+    'entries: for entry in &source.history.as_slice()[position as usize..] {
         match &entry.edit {
-            Edit::Vector(diff) if takes_effect(diff, len, cap) => {
-                follow_one(alloc, test, cap, content, diff, &mut given)?;
-            }
+            Edit::Vector(diff) if took_effect(entry.reply) => filter.step(diff, &mut given)?,
             _ => {}
         }
     }
     Ok(given)
 }
 
-/// Adds what the filter gives for one difference, and makes the difference.
-#[tactic(auto, using(crate::proofs::Lengths::applied_within))]
-fn follow_one(
-    alloc: Global,
-    test: &AtLeast,
-    cap: u32,
-    content: &mut Items<i64>,
-    diff: &VecDiff<i64>,
-    given: &mut Diffs<i64>,
-) -> Result<(), NoMemory>
-    requires within { length content.old ≤ cap }
-    requires effect { takes_effect diff.now (length content.old) cap ≡ true }
-    ensures within { length content.new ≤ cap }
-    ensures content { OnOk result (content.new ≡ applied content.old diff.now) }
-    ensures given { OnOk result (given.new ≡ given.old
-        ++ option_to_list (filter_gives (is_at_least test.now.least) content.old diff.now)) }
+/// Whether the edit with this reply took effect.
+fn took_effect(reply: Reply) -> bool
+    ensures { result ≡ took_effect reply }
 {
-    if let Some(passed) = filtered(alloc, test, content.as_slice(), diff)? {
-        given.push(passed)?;
+    match reply {
+        Reply::Fine | Reply::Was(_) => true,
+        Reply::OutOfRange { .. } | Reply::Long { .. } => false,
     }
-    apply(content, diff)
 }
 
 /// The row of a view of one leaf.
