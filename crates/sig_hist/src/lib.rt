@@ -1,0 +1,10 @@
+//! Sources and their histories: what one edit changes, and what it answers.
+#![tactic(auto)]
+
+mod changes;
+mod edits;
+#[cfg(test)]
+mod tests;
+
+pub use changes::execute;
+pub use edits::{Edit, Entry, History, Reply};
