@@ -1,4 +1,4 @@
-//! Sources and their histories: what one edit changes, and what it answers.
+//! Edits of sources: what one changes, and what it answers.
 #![tactic(auto)]
 
 mod changes;

@@ -80,11 +80,6 @@ slice_get_some [] at within = absurd (omega (arith, within))
 slice_get_some (x ∷ xs) zero within = (x, refl)
 slice_get_some (x ∷ xs) (suc at) within = slice_get_some xs at (omega arith)
 
-pub drop_at : {X : Type 0} (xs : List X) (at : ℕ) (x : X) → slice_get xs at ≡ Some x → drop at xs ≡ x ∷ drop (suc at) xs
-drop_at [] at x found = cc
-drop_at (y ∷ xs) zero x found = cc
-drop_at (y ∷ xs) (suc at) x found = drop_at xs at x found
-
 pub length_all_edits : (edits : List FirstEdit) → 0 < length edits → length (all_edits edits) ≡ length edits + 1
 length_all_edits [] some = absurd (omega (arith, some))
 length_all_edits (edit ∷ edits) some = grind (arith, common_steps)

@@ -15,7 +15,8 @@ use Rattle.sig_run.specs.Playing.{Played, written, written_out}
 use Rattle.sig_run.specs.Watching.{Follows}
 use Rattle.sig_run.specs.Stages.{IsInStep, played_of, is_done}
 use Rattle.sig_run.specs.Script.{edits_in, edit_from, all_edits, cap_of}
-use Rattle.sig_run.proofs.States.{legal_append, legal_drop, state_append, state_split, is_closed_append, next_is_edit, next_is_leave, next_is_some, next_is_none, drop_at}
+use Rattle.sig_run.proofs.States.{legal_append, legal_drop, state_append, state_split, is_closed_append, next_is_edit, next_is_leave, next_is_some, next_is_none}
+use Rattle.sig_diff.proofs.Blocks.{drop_from}
 
 pub follows : (script : FirstScript) (stage : Stage) → IsInStep script stage → Follows stage.source stage.view
 follows script stage step = record {
@@ -65,7 +66,7 @@ pub rest_next : (script : FirstScript) (p : Played) → is_done (length (edits_i
     (written_out script (written script p) ≡ written_out script p) × (length (written script p).history ≡ length p.history + 1)
 rest_next script p open_ =
     let next = next_is_some (edits_in script) (length p.history) open_ in
-    (rw (next.1, drop_at (all_edits (edits_in script)) (length p.history) next.0 next.1, length-append, add-one) refl, rw (next.1, length-append) refl)
+    (rw (next.1, drop_from (all_edits (edits_in script)) (length p.history) next.0 next.1, length-append, add-one) refl, rw (next.1, length-append) refl)
 
 -- a writer that is done makes no further entry
 pub written_none : (script : FirstScript) (p : Played) → is_done (length (edits_in script)) (length p.history) ≡ true → p ≡ written script p
