@@ -6,23 +6,10 @@ use Rattle.std.specs.Ordering.{int_eq}
 use Rattle.sig_diff.specs.Entries.{value_at, keys_of, values_of, values_mapped}
 use Rattle.sig_diff.specs.Numbers.{class_of, clamped, total}
 use Rattle.sig_diff.specs.Sorting.{by_key, in_order}
+use Rattle.sig_diff.specs.Contents.{number_in, list_in, entries_in}
 use Rattle.sig_diff.specs.declared.contents.Content.{Content}
-use Rattle.sig_diff.specs.declared.contents.Content.TheVariants.{Cell, Vector, Map}
 use Rattle.sig_expr.specs.Functions.{image, passes}
 use Rattle.sig_expr.specs.Trees.{MapTree, map_source, mapped_values, SigTree, cell, mapped_signal, deduped, switched, length_of, total_of, at_key, VecTree, vector, mapped, filtered, filtered_by, mapped_by, sorted, joined, flattened, picked, keys_in, values_in, SigTrees, no_signals, more_signals, VecTrees, no_lists, more_lists}
-
--- a cell's number, a vector's list and a map's entries. A content of another kind counts as 0, and as empty
-abbrev pub number_in : Content → ℤ
-number_in (Cell x) = x
-number_in _ = pos 0
-
-abbrev pub list_in : Content → List ℤ
-list_in (Vector xs) = xs
-list_in _ = []
-
-abbrev pub entries_in : Content → List (ℤ × ℤ)
-entries_in (Map entries) = entries
-entries_in _ = []
 
 -- the part of a bank that a number chooses, by the number's class
 abbrev pub chosen : {A : Type 0} → List A → ℤ → A → A

@@ -2,7 +2,8 @@ ghost use Rattle.std.specs.Prelude.{◌≡◌, ◌≤◌, ◌+◌, ◌++◌, pos
 ghost use Rattle.std.specs.List.{flat_map};
 ghost use Rattle.sig_diff.specs.Numbers.{clamped, total};
 ghost use Rattle.sig_expr.specs.Leaves.{sig_leaves, vec_leaves, sigs_leaves, vecs_leaves, leaves, number_map, number_sig, number_vec, number_sigs, number_vecs, numbered};
-ghost use Rattle.sig_expr.specs.Scratch.{number_in, list_in, entries_in, signal_for, list_for, is_let_in, raised_by, entries_of, value_of, list_of, signals_of, lists_of};
+ghost use Rattle.sig_diff.specs.Contents.{number_in, list_in, entries_in};
+ghost use Rattle.sig_expr.specs.Scratch.{signal_for, list_for, is_let_in, raised_by, entries_of, value_of, list_of, signals_of, lists_of};
 ghost use Rattle.sig_expr.specs.Shapes.{map_tree, sig_tree, vec_tree, sig_trees, vec_trees, view_tree};
 ghost use Rattle.sig_expr.specs.Shows.{content_of, shows, DependsOnAwaited};
 

@@ -19,6 +19,17 @@ pub fn leaves(alloc: Global, view: &View) -> Result<LeafList, NoMemory>
     Ok(all)
 }
 
+impl SigExpr {
+    /// The source number of each leaf, from left to right.
+    pub fn leaves(&self, alloc: Global) -> Result<LeafList, NoMemory>
+        ensures { IfOk result (λ list. list ≡ sig_leaves (sig_tree self.now)) }
+    {
+        let mut all = Items::new(alloc);
+        push_signal(&mut all, self)?;
+        Ok(all)
+    }
+}
+
 #[cycle(leaves)]
 fn push_signal(all: &mut LeafList, signal: &SigExpr) -> Result<(), NoMemory>
     ensures { OnOk result (all.new ≡ all.old ++ sig_leaves (sig_tree signal.now)) }

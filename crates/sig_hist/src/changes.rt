@@ -7,10 +7,12 @@ use sig_diff::{Content, Entries, Items, NoMemory, VecDiff, apply, is_lawful};
 
 /// Makes an edit of a content that has at most `cap` elements, and answers it. An edit of another kind, and a
 /// leave, change nothing. After want of memory the content is as it was.
+#[tactic(auto, using(crate::proofs::Entries::within_cap))]
 pub fn execute(content: &mut Content, cap: u32, edit: &Edit) -> Result<Reply, NoMemory>
     requires { size_of content.old ≤ cap }
     ensures reply { IfOk result (λ reply. reply ≡ reply_to content.old cap edit.now) }
     ensures content { OnOk result (content.new ≡ edited content.old cap edit.now) }
+    ensures within { size_of content.new ≤ cap }
     ensures err { OnErr result (content.new ≡ content.old) }
 {
     match content {
@@ -84,18 +86,20 @@ fn reply_of(diff: &VecDiff<i64>, items: &[i64], cap: u32) -> Reply
     }
 }
 
+#[tactic(auto, using(crate::proofs::Entries::within_cap))]
 fn edit_map(entries: &mut Entries<i64>, cap: u32, edit: &Edit) -> Result<Reply, NoMemory>
     requires { length entries.old ≤ cap }
     ensures reply { IfOk result (λ reply. reply ≡ reply_to (Map entries.old) cap edit.now) }
     ensures content { OnOk result (Map entries.new ≡ edited (Map entries.old) cap edit.now) }
+    ensures within { size_of (edited (Map entries.old) cap edit.now) ≤ cap }
     ensures err { OnErr result (entries.new ≡ entries.old) }
 {
+    // Of the slice it is known that its keys rise, and so that an edit keeps the map within its cap.
+    let len = entries.as_slice().len() as u32;
     match edit {
         Edit::Put(key, value) => put(entries, cap, *key, *value),
         Edit::Delete(key) => Ok(delete(entries, *key)),
-        Edit::Load(others) if others.len() > cap as usize => Ok(Reply::Long {
-            len: entries.len() as u32,
-        }),
+        Edit::Load(others) if others.len() > cap as usize => Ok(Reply::Long { len }),
         Edit::Load(others) => {
             entries.assign(others)?;
             Ok(Reply::Fine)

@@ -1,0 +1,254 @@
+ghost use Rattle.std.specs.Prelude.{◌≡◌, ◌<◌, ◌≤◌, false, length, map, All, IfSome, IfOk, IfErr, OnErr};
+ghost use Rattle.sig_hist.specs.Changes.{reply_to};
+ghost use Rattle.sig_hist.specs.Entering.{entering_from};
+ghost use Rattle.sig_hist.specs.Histories.{is_leave};
+ghost use Rattle.sig_hist.specs.Sources.{IsPlan, IsIn, IsRefusal, content_of};
+ghost use Rattle.sig_hist.specs.Ports.{IsSoundPort};
+ghost use Rattle.sig_hist.specs.OneThread.{source_of, leaf_of, source_at, leaf_at, version_of, with_entry, leaf_checked, leaf_settled, leaf_armed, known};
+
+use crate::edits::{Edit, Reply};
+use crate::plans::{EditError, Plans};
+use crate::ports::{Condition, FetchError, Fetched, Port, Rested, Version};
+use crate::sources::{Kept, SourceState};
+use sig_diff::{LeafList, NoMemory};
+use std::alloc::Global;
+use std::marker::Model;
+
+/// A leaf of the port of one thread.
+#[derive(Debug, Clone, Copy, PartialEq, Eq)]
+pub struct PlainLeaf {
+    pub source: usize,
+    pub condition: Condition,
+    /// How often its bell was set, as far as 64 bits reach.
+    pub arms: u64,
+}
+
+/// The token of the port of one thread. Anybody can make one.
+#[derive(Debug, Drop)]
+pub struct Free;
+
+/// The port of one thread. It has seen all that there is, finds no word held, and counts its leaves as one task.
+#[derive(Drop)]
+pub struct Plain {
+    sources: Vec<SourceState>,
+    leaves: Vec<PlainLeaf>,
+}
+
+impl Model for Plain {
+    ghost use Rattle.sig_hist.specs.OneThread.{OneThread, IsOneThread};
+
+    ghost Value = { OneThread };
+
+    ghost view = { λ p. record { sources = p.sources.items; leaves = p.leaves.items } };
+
+    ghost invariant = { λ p. IsOneThread (record { sources = p.sources.items; leaves = p.leaves.items }) };
+}
+
+impl Plain {
+    /// The sources at their start, and the leaves with the sources of these numbers.
+    #[tactic(auto, using(crate::proofs::Knowing::started))]
+    pub fn new(alloc: Global, plans: Plans, leaves: LeafList) -> Result<Plain, NoMemory>
+        requires plans { All IsPlan plans }
+        requires leaves { All (λ source. source < length plans) leaves }
+        ensures { IfOk result (λ port. port ≡ record { sources = map source_of plans; leaves = map leaf_of leaves }) }
+    {
+        Ok(Plain {
+            sources: sources_of(alloc, plans)?,
+            leaves: leaves_of(alloc, leaves.as_slice())?,
+        })
+    }
+
+    /// Makes an edit of a source, whether or not it has an effect, and puts it into the source's history. After a refusal
+    /// nothing has changed.
+    #[tactic(auto, using(crate::proofs::Knowing::source_changed))]
+    pub fn edit(&mut self, source: usize, caller: u32, edit: &Edit) -> Result<Reply, EditError>
+        requires source { source < length self.old.sources }
+        requires is_in { IsIn (source_at self.old source) caller }
+        requires no_leave { is_leave edit.now ≡ false }
+        ensures reply { IfOk result (λ reply. reply ≡ reply_to (content_of (source_at self.old source)) (source_at self.old source).plan.cap edit.now) }
+        ensures entered { IfOk result (λ reply. self.new ≡ with_entry self.old source (record { caller = caller; edit = edit.now; reply = reply })) }
+        ensures refused { IfErr result (IsRefusal (source_at self.old source) caller) }
+        ensures err { OnErr result (self.new ≡ self.old) }
+    {
+        let source = &mut self.sources[source];
+        source.edit(caller, edit)
+    }
+
+    /// Takes a writer of a source out. It takes no memory.
+    #[tactic(auto, using(crate::proofs::Knowing::source_changed))]
+    pub fn leave(&mut self, source: usize, caller: u32)
+        requires source { source < length self.old.sources }
+        requires is_in { IsIn (source_at self.old source) caller }
+        ensures { self.new ≡ with_entry self.old source (record { caller = caller; edit = Edit.Leave; reply = Reply.Fine }) }
+    {
+        let source = &mut self.sources[source];
+        source.leave(caller);
+    }
+
+    /// The state of a source.
+    pub fn source(&self, source: usize) -> &SourceState
+        requires { source < length self.now.sources }
+        ensures { result.now ≡ source_at self.now source }
+    {
+        &self.sources[source]
+    }
+
+    /// The number of a leaf's source.
+    #[tactic(auto, using(crate::proofs::Knowing::known_is_sound))]
+    fn source_of(&self, leaf: usize) -> usize
+        requires { leaf < length self.now.leaves }
+        ensures source { result ≡ (leaf_at self.now leaf).source }
+        ensures within { result < length self.now.sources }
+        ensures sound { IsSoundPort (known self.now) }
+    {
+        self.leaves[leaf].source
+    }
+}
+
+impl Port for Plain {
+    ghost use Rattle.std.specs.Prelude.{◌≡◌, length, refl};
+    ghost use Rattle.std.proofs.Common.{◌∙◌};
+    ghost use Rattle.sig_hist.specs.OneThread.{known};
+
+    type Told = Free;
+
+    ghost state = { known };
+
+    ghost is_same = { λ port next. length next.sources ≡ length port.sources };
+
+    ghost is_told = { λ port told task. Unit {0} };
+
+    #[tactic(auto, using(crate::proofs::Knowing::all_written, crate::proofs::Knowing::leaves_checked))]
+    fn look(&mut self, leaf: usize) -> Version {
+        let source = self.source_of(leaf);
+        let version = version_of(self.source(source));
+        check(self.leaves.as_mut_slice(), source, version);
+        version
+    }
+
+    #[tactic(auto, using(crate::proofs::Knowing::known_fetched, crate::proofs::Knowing::known_refused))]
+    fn fetch(&mut self, leaf: usize, from: Option<u32>) -> Result<Fetched, FetchError> {
+        let source = self.source(self.source_of(leaf));
+        fetched(source, from).map_err(|_| FetchError::NoMemory)
+    }
+
+    #[tactic(auto, using(crate::proofs::Knowing::known_armed))]
+    fn arm(&mut self, leaf: usize) {
+        self.leaves[leaf] = armed(self.leaves[leaf]);
+    }
+
+    fn rest(&mut self, leaf: usize, at: u32, told: Free) -> Rested<Free> {
+        let version = self.look(leaf);
+        if version.count != at || version.closed {
+            return Rested::News { version, told };
+        }
+        settle(self.leaves.as_mut_slice());
+        Rested::Waiting
+    }
+
+    ghost same_now = { λ port. refl };
+
+    ghost same_later = { λ port next last first second. second ∙ first };
+
+    ghost told_later = { λ port next told task same is_told. tt };
+}
+
+/// The sources at their start.
+fn sources_of(alloc: Global, plans: Plans) -> Result<Vec<SourceState>, NoMemory>
+    requires { All IsPlan plans }
+    ensures { IfOk result (λ sources. sources.items ≡ map source_of plans) }
+{
+    let mut sources = Vec::with_capacity(alloc, plans.len())?;
+    'plans: for plan in plans.into_vec() {
+        sources.push(SourceState::new(alloc, plan)?)?;
+    }
+    Ok(sources)
+}
+
+/// The leaves with the sources of these numbers, before a poll.
+fn leaves_of(alloc: Global, leaves: &[usize]) -> Result<Vec<PlainLeaf>, NoMemory>
+    ensures { IfOk result (λ all. all.items ≡ map leaf_of leaves.now) }
+{
+    let mut all = Vec::with_capacity(alloc, leaves.len())?;
+    'leaves: for source in leaves {
+        all.push(PlainLeaf {
+            source: *source,
+            condition: Condition::Idle,
+            arms: 0,
+        })?;
+    }
+    Ok(all)
+}
+
+/// What enters from a position to the end of a source's history.
+fn fetched(source: &SourceState, from: Option<u32>) -> Result<Fetched, NoMemory>
+    requires { IfSome from (λ position. position ≤ length source.now.history) }
+    ensures version { IfOk result (λ fetched. fetched.version ≡ version_of source.now) }
+    ensures entering { IfOk result (λ fetched. fetched.entering ≡ entering_from source.now from) }
+{
+    let entering = source.entering(from)?;
+    Ok(Fetched {
+        version: version_of(source),
+        entering,
+    })
+}
+
+fn version_of(source: &SourceState) -> Version
+    ensures { result ≡ version_of source.now }
+{
+    Version {
+        count: source.count(),
+        closed: source.is_closed(),
+    }
+}
+
+/// A look at a source has shown a version.
+fn check(leaves: &mut [PlainLeaf], source: usize, version: Version)
+    ensures { leaves.new ≡ map (leaf_checked source version) leaves.old }
+{
+    'leaves: for leaf in leaves {
+        *leaf = checked(*leaf, source, version);
+    }
+}
+
+/// The task of all leaves comes to rest.
+fn settle(leaves: &mut [PlainLeaf])
+    ensures { leaves.new ≡ map leaf_settled leaves.old }
+{
+    'leaves: for leaf in leaves {
+        *leaf = settled(*leaf);
+    }
+}
+
+fn checked(leaf: PlainLeaf, source: usize, version: Version) -> PlainLeaf
+    ensures { result ≡ leaf_checked source version leaf }
+{
+    if leaf.source != source {
+        return leaf;
+    }
+    let condition = match leaf.condition {
+        Condition::Armed | Condition::Checked(_) => Condition::Checked(version),
+        old => old,
+    };
+    PlainLeaf { condition, ..leaf }
+}
+
+fn armed(leaf: PlainLeaf) -> PlainLeaf
+    ensures { result ≡ leaf_armed leaf }
+{
+    PlainLeaf {
+        condition: Condition::Armed,
+        arms: leaf.arms.saturating_add(1),
+        ..leaf
+    }
+}
+
+fn settled(leaf: PlainLeaf) -> PlainLeaf
+    ensures { result ≡ leaf_settled leaf }
+{
+    let condition = match leaf.condition {
+        Condition::Checked(version) => Condition::Waiting(version),
+        _ => Condition::Idle,
+    };
+    PlainLeaf { condition, ..leaf }
+}
