@@ -153,7 +153,8 @@ fn answer_to(alloc: Global, bytes: &[u8]) -> Result<Answer, NoMemory>
         Err(ScriptError::NotBuilt { path }) => {
             Ok(Answer::Refusal(refusal_line(alloc, 8, path.as_slice())?))
         }
-        Err(ScriptError::NoMemory) => Err(AllocError),
+        // The other refusals are of whole scripts, which aren't read here.
+        Err(_) => Err(AllocError),
     }
 }
 

@@ -1,2 +1,11 @@
 pub mod Counts
+pub mod Finding
+pub mod Growing
+pub mod Leaving
+pub mod Levels
+pub mod NameTables
+pub mod Naming
 pub mod Reading
+pub mod Rising
+pub mod Sizing
+pub mod Spending

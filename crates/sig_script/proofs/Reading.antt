@@ -24,7 +24,7 @@ joined : {T : Type 0} (done : List T) (x : T) (rest : Option (List T))
 joined done x None = refl
 joined done x (Some rest) = ap Some (sym (append_assoc done (x ∷ []) rest))
 
-next : (values : List Value) (index : ℕ) (value : Value) → index < length values → value ≡ get_or values index value → drop index values ≡ value ∷ drop (index + 1) values
+pub next : (values : List Value) (index : ℕ) (value : Value) → index < length values → value ≡ get_or values index value → drop index values ≡ value ∷ drop (index + 1) values
 next values index value below here = drop-cons values index value below ∙ rw (← here, add-one)
 
 pub goes_on : {T : Type 0} (f : Data → Option T) (values : List Value) (index : ℕ) (done : List T) (value : Value) (x : T)

@@ -1,9 +1,9 @@
 -- How the values of a JSON document are read: numbers, names, lists, and objects with stated fields.
-use Rattle.std.specs.Prelude.{ℕ, ◌+◌, ◌^◌, ◌==◌, ◌&&◌, ◌||◌, ℤ, List, [], ◌∷◌, length, Bool, false, nat_lt, nat_le, if◌then◌else◌, Option, None, Some, option_map, option_and_then}
+use Rattle.std.specs.Prelude.{ℕ, ◌+◌, ◌^◌, ◌==◌, ◌&&◌, ◌||◌, ℤ, List, [], ◌∷◌, length, Bool, false, nat_lt, nat_le, if◌then◌else◌, Option, None, Some, option_map, option_and_then, unwrap_or}
 use Rattle.std.specs.List.{list_all}
 use Rattle.std.specs.Option.{option_zip}
-use Rattle.serde_json.specs.Data.{Data, Items, no_items, item, Members, no_members, member}
-use Rattle.serde_json.specs.Find.{get_member, as_number, as_i64, as_u64, as_str, as_object}
+use Rattle.serde_json.specs.Data.{Data, null, Items, no_items, item, Members, no_members, member}
+use Rattle.serde_json.specs.Find.{get_member, as_number, as_i64, as_u64, as_str, as_array, as_object}
 
 -- a number is one that fits an i64
 abbrev pub number_of : Data → Option ℤ
@@ -35,7 +35,26 @@ checked_name text = if is_name text then Some text else None
 abbrev pub name_of : Data → Option (List ℕ)
 name_of value = option_and_then checked_name (as_str value)
 
+-- the bytes of a text, and none of another value
+abbrev pub text_in : Data → List ℕ
+text_in value = unwrap_or (as_str value) []
+
 -- ---- lists and objects
+
+-- the values of a list, and none of another value
+abbrev pub items_in : Data → Items
+items_in value = unwrap_or (as_array value) no_items
+
+-- the fields of an object, and none of another value
+abbrev pub members_in : Data → Members
+members_in value = unwrap_or (as_object value) no_members
+
+-- the value of a field, and null where there is none
+abbrev pub value_at : List ℕ → Members → Data
+value_at name members = unwrap_or (get_member name members) null
+
+abbrev pub list_at : List ℕ → Members → Items
+list_at name members = items_in (value_at name members)
 
 -- each value of a list, as f reads it
 abbrev pub each_of : {T : Type 0} → (Data → Option T) → Items → Option (List T)

@@ -1,8 +1,10 @@
 ghost use Rattle.std.specs.Prelude.{◌≡◌, option_map, nat_le};
 ghost use Rattle.std.specs.List.{list_all};
+ghost use Rattle.std.specs.Option.{option_map_or};
+ghost use Rattle.serde_json.specs.Data.{null};
 ghost use Rattle.serde_json.specs.View.{view, items_view, members_view};
 ghost use Rattle.serde_json.specs.Find.{as_array, get_member};
-ghost use Rattle.sig_script.specs.Fields.{number_of, index_of, is_name_byte, is_name, item_count, field_count, only_field, two_fields};
+ghost use Rattle.sig_script.specs.Fields.{number_of, index_of, is_name_byte, is_name, item_count, field_count, only_field, two_fields, text_in, items_in, members_in, value_at, list_at};
 
 use serde_json::{Map, Value};
 
@@ -100,4 +102,51 @@ pub fn list_of(value: &Value) -> Option<&[Value]>
     ensures { option_map (λ found. items_view found.now) result ≡ as_array (view value.now) }
 {
     Some(value.as_array()?.as_slice())
+}
+
+/// The bytes of a text, and none of another value.
+pub fn text_in(value: &Value) -> &[u8]
+    ensures { result.now ≡ text_in (view value.now) }
+{
+    match value.as_str() {
+        Some(text) => text.as_bytes(),
+        None => &[],
+    }
+}
+
+/// The values of a list, and none of another value.
+pub fn items_in(value: &Value) -> &[Value]
+    ensures { items_view result.now ≡ items_in (view value.now) }
+{
+    list_of(value).unwrap_or(&[])
+}
+
+/// The value of a field, if the value is an object that has it.
+pub fn value_at<'v>(value: &'v Value, name: &str) -> Option<&'v Value>
+    ensures found { option_map (λ found. view found.now) result
+        ≡ get_member name.now (members_in (view value.now)) }
+    ensures or_null { option_map_or (λ found. view found.now) result null
+        ≡ value_at name.now (members_in (view value.now)) }
+{
+    field(value.as_object()?, name)
+}
+
+/// The text in a field, and none where there is no such text.
+pub fn text_at<'v>(value: &'v Value, name: &str) -> &'v [u8]
+    ensures { result.now ≡ text_in (value_at name.now (members_in (view value.now))) }
+{
+    match value_at(value, name) {
+        Some(text) => text_in(text),
+        None => &[],
+    }
+}
+
+/// The values of the list in a field, and none where there is no such list.
+pub fn list_at<'v>(value: &'v Value, name: &str) -> &'v [Value]
+    ensures { items_view result.now ≡ list_at name.now (members_in (view value.now)) }
+{
+    match value_at(value, name) {
+        Some(values) => items_in(values),
+        None => &[],
+    }
 }

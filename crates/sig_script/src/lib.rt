@@ -1,13 +1,43 @@
 //! Reading a script: from the bytes of a JSON document to what it asks for, or a refusal by its number.
 #![tactic(auto)]
 
+mod building;
+mod built;
+mod checks;
 mod document;
+mod document_building;
+mod document_limits;
+mod document_names;
+mod document_shapes;
+mod expressions;
 mod fields;
+mod grammar;
+mod leaves;
+mod limits;
+mod name_table;
+mod names;
+mod objects;
+mod paths;
+mod reader;
+#[cfg(test)]
+mod reader_tests;
+mod rooms;
+mod schedules;
 mod script;
+mod shapes;
+mod sizes;
 #[cfg(test)]
 mod tests;
+mod types;
+mod walks;
 
+pub use grammar::ViewKind;
+pub use reader::read_script;
 pub use script::{
     FirstEdit, FirstEdits, FirstEvent, FirstEvents, FirstScript, FirstWriter, ScriptError,
     first_script,
+};
+pub use types::{
+    Edits, Event, Events, Script, ShareDef, ShareDefs, SourceDef, SourceDefs, ViewDef, ViewDefs,
+    WriterDef, WriterDefs,
 };
