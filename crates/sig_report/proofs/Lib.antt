@@ -1,0 +1,12 @@
+pub mod Turning
+pub mod RowSteps
+pub mod Growing
+pub mod Polls
+pub mod Writers
+pub mod Allowing
+pub mod Events
+pub mod Views
+pub mod Schedules
+pub mod Endings
+pub mod Reports
+pub mod Plays

@@ -1,0 +1,5 @@
+use Rattle.sig_report.proofs.Plays.{play_is_lawful}
+use Rattle.sig_report.proofs.law.play_is_lawful.Goals as goal
+
+pub returns : goal.returns
+returns c = play_is_lawful c.args.script.now

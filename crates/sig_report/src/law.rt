@@ -1,0 +1,12 @@
+ghost use Rattle.std.specs.Prelude.{◌≡◌, true, None};
+ghost use Rattle.sig_report.specs.Lawful.{Lawful};
+ghost use Rattle.sig_script.specs.Leaving.{has_no_leaves};
+ghost use Rattle.sig_report.specs.Playing.{play};
+ghost use Rattle.sig_script.specs.Built.{unbuilt};
+
+use sig_script::Script;
+
+/// The play of a script is lawful: where all of it is built, and none of its edits is itself a leave.
+pub fn play_is_lawful(script: &Script)
+    ensures { unbuilt script.now ≡ None → has_no_leaves script.now ≡ true → Lawful script.now (play script.now) }
+{}

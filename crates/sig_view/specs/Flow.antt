@@ -1,0 +1,101 @@
+-- What a view gives as its leaves go on along the histories of their sources.
+use Rattle.std.specs.Prelude.{ℕ, ◌+◌, ℤ, pos, List, [], ◌∷◌, ◌++◌, length, take, drop, filter, Option, None, Some, option_map, option_and_then}
+use Rattle.std.specs.List.{flat_map}
+use Rattle.sig_diff.specs.Differences.{applied}
+use Rattle.sig_diff.specs.Numbers.{clamped, total}
+use Rattle.sig_diff.specs.declared.contents.Content.{Content}
+use Rattle.sig_diff.specs.declared.contents.Tagged.{Tagged}
+use Rattle.sig_diff.specs.declared.differences.VecDiff.{VecDiff}
+use Rattle.sig_diff.specs.declared.differences.VecDiff.TheVariants.{Replace}
+use Rattle.sig_diff.specs.declared.map_differences.MapDiff.{MapDiff}
+use Rattle.sig_diff.specs.declared.map_differences.MapDiff.TheVariants as changed
+use Rattle.sig_expr.specs.Functions.{image, passes}
+use Rattle.sig_expr.specs.Scratch.{list_of, value_of}
+use Rattle.sig_expr.specs.Shows.{shows}
+use Rattle.sig_expr.specs.Trees.{MapTree, map_source, mapped_values, SigTree, cell, mapped_signal, deduped, switched, length_of, total_of, at_key, VecTree, vector, mapped, filtered, filtered_by, mapped_by, sorted, joined, flattened, picked, keys_in, values_in, ViewTree, signal_view, vector_view, map_view, entries_view, tagged_view}
+use Rattle.sig_expr.specs.declared.shown.Shown.{Shown}
+use Rattle.sig_expr.specs.declared.shown.Shown.TheVariants as shown
+use Rattle.sig_hist.specs.Entering.{list_entering, map_entering, number_entering}
+use Rattle.sig_hist.specs.Histories.{state}
+use Rattle.sig_hist.specs.Sources.{Source}
+use Rattle.sig_hist.specs.declared.edits.Entry.{Entry}
+use Rattle.sig_ops.specs.Signals.{given}
+use Rattle.sig_ops.specs.Tables.{filter_gives, map_gives}
+use Rattle.sig_view.specs.declared.rows.Body.{Body}
+use Rattle.sig_view.specs.declared.rows.Body.TheVariants as body
+
+-- the content of a source after the first entries of its history
+abbrev pub state_at : Source → ℕ → Content
+state_at source position = state source.plan.start source.plan.cap (take position source.history)
+
+-- the way that a leaf goes along the history of its source: from one position to another
+pub record Way : Type 0 where
+  pub source : Source
+  pub from : ℕ
+  pub to : ℕ
+
+abbrev pub passed : Way → List Entry
+passed way = drop way.from (take way.to way.source.history)
+
+abbrev pub before : Way → Content
+before way = state_at way.source way.from
+
+abbrev pub behind : Way → Content
+behind way = state_at way.source way.to
+
+-- what an operator on a list gives for differences of it, one after another
+abbrev pub through : {T U : Type 0} → (List T → VecDiff T → List (VecDiff U)) → List T → List (VecDiff T) → List (VecDiff U)
+through gives xs [] = []
+through gives xs (diff ∷ diffs) = gives xs diff ++ through gives (applied xs diff) diffs
+
+module _ {L : Type 0} (way : L → Way) where
+  -- the contents of the leaves before and after
+  abbrev pub old : L → Content
+  old leaf = before (way leaf)
+
+  abbrev pub new : L → Content
+  new leaf = behind (way leaf)
+
+  abbrev pub map_flow : MapTree L → List (MapDiff ℤ)
+  map_flow (map_source leaf) = map_entering (old leaf) (way leaf).source.plan.cap (passed (way leaf))
+  map_flow _ = []
+
+  abbrev pub list_flow : VecTree L → List (VecDiff ℤ)
+  list_flow (vector leaf) = list_entering (old leaf) (way leaf).source.plan.cap (passed (way leaf))
+  list_flow (mapped f e) = flat_map (map_gives (image f)) (list_flow e)
+  list_flow (filtered p e) = through (filter_gives (passes p)) (list_of old e) (list_flow e)
+  list_flow _ = []
+
+  -- the value that a signal gives, where it gives one
+  abbrev pub value_flow : SigTree L → Option ℤ
+  value_flow (cell leaf) = number_entering (old leaf) (way leaf).source.plan.cap (passed (way leaf))
+  value_flow (mapped_signal f e) = option_map (image f) (value_flow e)
+  value_flow (deduped e) = option_and_then (given (value_of old e)) (value_flow e)
+  value_flow (length_of e) = given (pos (length (list_of old e))) (pos (length (list_of new e)))
+  value_flow (total_of e) = given (clamped (total (list_of old e))) (clamped (total (list_of new e)))
+  value_flow _ = None
+
+  abbrev pub flow : ViewTree L → Body
+  flow (signal_view e) = body.Signal (value_flow e)
+  flow (vector_view e) = body.Vector (list_flow e)
+  flow (map_view m) = body.Map (map_flow m)
+  flow (entries_view m) = body.Pairs []
+  flow (tagged_view e) = body.Tagged []
+
+-- elements with tags, from this one on
+abbrev pub tagged_from : ℕ → List ℤ → List Tagged
+tagged_from tag [] = []
+tagged_from tag (x ∷ xs) = record { tag = tag; value = x } ∷ tagged_from (tag + 1) xs
+
+-- all that is shown, at once
+abbrev pub whole_body : Shown → Body
+whole_body (shown.Signal value) = body.Signal (Some value)
+whole_body (shown.Vector items) = body.Vector (Replace items ∷ [])
+whole_body (shown.Map entries) = body.Map (changed.Replace entries ∷ [])
+whole_body (shown.Pairs pairs) = body.Pairs (Replace pairs ∷ [])
+whole_body (shown.Tagged elements) = body.Tagged (Replace elements ∷ [])
+
+-- the first row's body, by what the leaves hold
+abbrev pub first_body : {L : Type 0} → ViewTree L → (L → Content) → Body
+first_body (tagged_view e) s = body.Tagged (Replace (tagged_from 0 (list_of s e)) ∷ [])
+first_body view s = whole_body (shows view s)

@@ -1,0 +1,133 @@
+-- Sound and complete rows: what the rows of a view say is true of the histories of its leaves' sources.
+use Rattle.std.specs.Prelude.{◌≡◌, ◌≢◌, ℕ, ◌<◌, ◌≤◌, ◌==◌, pos, List, [], ◌∷◌, length, map, get_or, slice_index, Bool, true, false, unwrap_or}
+use Rattle.std.specs.List.{list_any}
+use Rattle.sig_diff.specs.Replaying.{AreLawful, MapAreLawful, replayed, map_replayed}
+use Rattle.sig_diff.specs.declared.contents.Content.{Content}
+use Rattle.sig_diff.specs.declared.contents.Tagged.{Tagged}
+use Rattle.sig_expr.specs.Awaited.{awaits}
+use Rattle.sig_expr.specs.Shows.{shows}
+use Rattle.sig_expr.specs.Trees.{ViewTree, signal_view, vector_view, map_view, entries_view, tagged_view}
+use Rattle.sig_expr.specs.declared.shown.Shown.{Shown}
+use Rattle.sig_expr.specs.declared.shown.Shown.TheVariants.{Signal, Vector, Map, Pairs, Tagged as Tags}
+use Rattle.sig_hist.specs.Histories.{is_closed}
+use Rattle.sig_hist.specs.OneThread.{no_source}
+use Rattle.sig_hist.specs.Sources.{Source, writers_of}
+use Rattle.sig_view.specs.Flow.{Way, first_body, flow, state_at}
+use Rattle.sig_view.specs.declared.rows.Body.{Body}
+use Rattle.sig_view.specs.declared.rows.Body.TheVariants as body
+use Rattle.sig_view.specs.declared.rows.Row.{Row}
+
+-- ---- positions
+
+-- the source of a leaf, by the sources of all leaves
+abbrev pub leaf_source : List Source → ℕ → Source
+leaf_source sources leaf = get_or sources leaf no_source
+
+-- what the leaves hold at their positions
+abbrev pub contents_at : List Source → List ℕ → ℕ → Content
+contents_at sources positions leaf = state_at (leaf_source sources leaf) (slice_index positions leaf)
+
+-- how the leaves go from positions to others
+abbrev pub ways : List Source → List ℕ → List ℕ → ℕ → Way
+ways sources from to leaf = record { source = leaf_source sources leaf; from = slice_index from leaf; to = slice_index to leaf }
+
+-- one position for each leaf, none past the end of its source's history
+abbrev pub AreWithin : List Source → List ℕ → Type 0
+AreWithin [] [] = Unit {0}
+AreWithin (source ∷ sources) (position ∷ positions) = (position ≤ length source.history) × AreWithin sources positions
+AreWithin _ _ = ⊥
+
+-- no position falls
+abbrev pub GoOn : List ℕ → List ℕ → Type 0
+GoOn [] [] = Unit {0}
+GoOn (old ∷ from) (new ∷ to) = (old ≤ new) × GoOn from to
+GoOn _ _ = ⊥
+
+abbrev pub is_awaited : ViewTree ℕ → List Source → List ℕ → ℕ → Bool
+is_awaited view sources positions leaf = list_any (λ awaited. awaited == leaf) (awaits (contents_at sources positions) view)
+
+-- ---- what is shown
+
+-- what a view shows before its first row
+abbrev pub nothing_shown : {L : Type 0} → ViewTree L → Shown
+nothing_shown (signal_view e) = Signal (pos 0)
+nothing_shown (vector_view e) = Vector []
+nothing_shown (map_view m) = Map []
+nothing_shown (entries_view m) = Pairs []
+nothing_shown (tagged_view e) = Tags []
+
+-- what is shown after a row
+abbrev pub shown_after : Shown → Body → Shown
+shown_after (Signal old) (body.Signal value) = Signal (unwrap_or value old)
+shown_after (Vector items) (body.Vector diffs) = Vector (replayed items diffs)
+shown_after (Map entries) (body.Map diffs) = Map (map_replayed entries diffs)
+shown_after (Pairs pairs) (body.Pairs diffs) = Pairs (replayed pairs diffs)
+shown_after (Tags elements) (body.Tagged diffs) = Tags (replayed elements diffs)
+shown_after shown _ = shown
+
+abbrev pub without_tags : Shown → Shown
+without_tags (Tags elements) = Vector (map (λ (element : Tagged). element.value) elements)
+without_tags shown = shown
+
+-- a body is of the kind that is shown, and each of its differences is lawful at its turn
+abbrev pub IsLawfulBody : Shown → Body → Type 0
+IsLawfulBody (Signal old) (body.Signal value) = Unit {0}
+IsLawfulBody (Vector items) (body.Vector diffs) = AreLawful items diffs
+IsLawfulBody (Map entries) (body.Map diffs) = MapAreLawful entries diffs
+IsLawfulBody (Pairs pairs) (body.Pairs diffs) = AreLawful pairs diffs
+IsLawfulBody (Tags elements) (body.Tagged diffs) = AreLawful elements diffs
+IsLawfulBody _ _ = ⊥
+
+-- ---- rows
+
+-- the first row: the view from scratch at once
+pub record IsFirstRow (view : ViewTree ℕ) (sources : List Source) (row : Row) : Type 0 where
+  pub within : AreWithin sources row.at
+  pub whole : row.body ≡ first_body view (contents_at sources row.at)
+
+-- a later row: some leaf has gone on, none has gone back, and one that isn't awaited has stayed. The body is what the view gives on
+-- the way, each difference lawful where it stands, and after it the view from scratch is shown
+pub record IsNextRow (view : ViewTree ℕ) (sources : List Source) (from : List ℕ) (shown : Shown) (at : List ℕ) (given : Body) : Type 0 where
+  pub within : AreWithin sources at
+  pub goes_on : GoOn from at
+  pub moves : at ≢ from
+  pub awaited : (leaf : ℕ) → is_awaited view sources at leaf ≡ false → slice_index at leaf ≡ slice_index from leaf
+  pub flow : given ≡ flow (ways sources from at) view
+  pub lawful : IsLawfulBody shown given
+  pub replay : without_tags (shown_after shown given) ≡ shows view (contents_at sources at)
+
+-- an ended row: the positions stay, each awaited leaf stands at the end of a closed history, and no row follows
+pub record IsEndedRow (view : ViewTree ℕ) (sources : List Source) (from : List ℕ) (at : List ℕ) (later : List Row) : Type 0 where
+  pub stays : at ≡ from
+  pub end : (leaf : ℕ) → is_awaited view sources at leaf ≡ true → slice_index at leaf ≡ length (leaf_source sources leaf).history
+  pub closed : (leaf : ℕ) → is_awaited view sources at leaf ≡ true → is_closed (writers_of (leaf_source sources leaf).plan.allow) (leaf_source sources leaf).history ≡ true
+  pub last : later ≡ []
+
+abbrev pub IsSoundRow : ViewTree ℕ → List Source → List ℕ → Shown → List ℕ → Body → List Row → Type 0
+IsSoundRow view sources from shown at body.Ended later = IsEndedRow view sources from at later
+IsSoundRow view sources from shown at given later = IsNextRow view sources from shown at given
+
+abbrev pub AreSoundAfter : ViewTree ℕ → List Source → List ℕ → Shown → List Row → Type 0
+AreSoundAfter view sources from shown [] = Unit {0}
+AreSoundAfter view sources from shown (row ∷ rows) =
+    IsSoundRow view sources from shown row.at row.body rows × AreSoundAfter view sources row.at (shown_after shown row.body) rows
+
+-- rows that are sound for these sources
+abbrev pub AreSound : ViewTree ℕ → List Source → List Row → Type 0
+AreSound view sources [] = Unit {0}
+AreSound view sources (row ∷ rows) = IsFirstRow view sources row × AreSoundAfter view sources row.at (shown_after (nothing_shown view) row.body) rows
+
+abbrev pub is_end : Body → Bool
+is_end body.Ended = true
+is_end _ = false
+
+-- rows of which the last is an ended row
+abbrev pub are_complete : List Row → Bool
+are_complete [] = false
+are_complete (row ∷ []) = is_end row.body
+are_complete (row ∷ next ∷ rows) = are_complete (next ∷ rows)
+
+-- what is shown after all rows
+abbrev pub replay_of : Shown → List Row → Shown
+replay_of shown [] = shown
+replay_of shown (row ∷ rows) = replay_of (shown_after shown row.body) rows

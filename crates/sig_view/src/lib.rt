@@ -1,0 +1,6 @@
+//! Views: what the polls of one give.
+#![tactic(auto)]
+
+mod rows;
+
+pub use rows::{Body, Positions, Row, Rows};
