@@ -1,7 +1,7 @@
 -- How the code's answers stand for those of the definitions.
 use Rattle.std.specs.Prelude.{◌≡◌, Result, Ok, Err}
-use Rattle.sig_script.specs.declared.script.ScriptError.{ScriptError}
-use Rattle.sig_script.specs.declared.script.ScriptError.TheVariants.{NotJson, NoMemory}
+use Rattle.sig_script.specs.declared.refusals.ScriptError.{ScriptError}
+use Rattle.sig_script.specs.declared.refusals.ScriptError.TheVariants.{NotJson, NoMemory}
 use Rattle.sig_script.specs.declared.types.Script.{Script}
 
 -- of a value that was read: it is JSON, and want of memory says nothing of the answer

@@ -21,6 +21,7 @@ pub mod Rooms
 pub mod Schedules
 pub mod Scopes
 pub mod Script
+pub mod SelfContained
 pub mod Shapes
 pub mod Sizes
 pub mod Spending

@@ -10,8 +10,8 @@ use Rattle.sig_script.specs.Names.{names_fault}
 use Rattle.sig_script.specs.Schedules.{schedule_fault}
 use Rattle.sig_script.specs.Shapes.{shape_fault}
 use Rattle.sig_script.specs.Sizes.{size_fault}
-use Rattle.sig_script.specs.declared.script.ScriptError.{ScriptError}
-use Rattle.sig_script.specs.declared.script.ScriptError.TheVariants.{NotJson, Shape, Name, Limit, TooBig, Schedule, NotBuilt, NoMemory}
+use Rattle.sig_script.specs.declared.refusals.ScriptError.{ScriptError}
+use Rattle.sig_script.specs.declared.refusals.ScriptError.TheVariants.{NotJson, Shape, Name, Limit, TooBig, Schedule, NotBuilt, NoMemory}
 use Rattle.sig_script.specs.declared.types.Script.{Script}
 
 -- refused where there is a fault, and else as it goes on

@@ -4,8 +4,8 @@ ghost use Rattle.sig_script.specs.Reading.{built_script, checked_script, schedul
 
 use crate::built::unbuilt;
 use crate::paths::Stop;
+use crate::refusals::ScriptError;
 use crate::schedules::schedule_fault;
-use crate::script::ScriptError;
 use crate::sizes::size_fault;
 use crate::types::Script;
 use std::alloc::Global;

@@ -18,9 +18,11 @@ mod name_table;
 mod names;
 mod objects;
 mod paths;
+mod planning;
 mod reader;
 #[cfg(test)]
 mod reader_tests;
+mod refusals;
 mod rooms;
 mod schedules;
 mod script;
@@ -32,10 +34,11 @@ mod types;
 mod walks;
 
 pub use grammar::ViewKind;
+pub use planning::plans;
 pub use reader::read_script;
+pub use refusals::ScriptError;
 pub use script::{
-    FirstEdit, FirstEdits, FirstEvent, FirstEvents, FirstScript, FirstWriter, ScriptError,
-    first_script,
+    FirstEdit, FirstEdits, FirstEvent, FirstEvents, FirstScript, FirstWriter, first_script,
 };
 pub use types::{
     Edits, Event, Events, Script, ShareDef, ShareDefs, SourceDef, SourceDefs, ViewDef, ViewDefs,

@@ -13,7 +13,7 @@ use crate::document_names::names_of;
 use crate::document_shapes::shape_fault;
 use crate::name_table::NameTable;
 use crate::paths::Stop;
-use crate::script::ScriptError;
+use crate::refusals::ScriptError;
 use crate::types::Script;
 use serde_json::Value;
 use std::alloc::Global;
