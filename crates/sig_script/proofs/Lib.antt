@@ -1,3 +1,4 @@
+pub mod Allowing
 pub mod Counts
 pub mod Finding
 pub mod Growing

@@ -174,7 +174,7 @@ pub fn source_rooms(alloc: Global, script: &Script) -> Result<Rooms, NoMemory>
     Ok(rooms)
 }
 
-fn source_room(source: usize, writers: &[WriterDef]) -> u64
+pub fn source_room(source: usize, writers: &[WriterDef]) -> u64
     ensures { result ≡ clipped (sum (map (writer_room source) writers.now)) }
 {
     let mut room: u64 = 0;
@@ -195,7 +195,7 @@ fn writer_room(source: usize, writer: &WriterDef) -> u64
 
 /// How many edits are on a source.
 #[tactic(auto, using(crate::proofs::Growing::length_edits_on))]
-fn count_on(source: usize, edits: &[(usize, Edit)]) -> u64
+pub fn count_on(source: usize, edits: &[(usize, Edit)]) -> u64
     ensures { result ≡ length (edits_on source edits.now) }
 {
     edits.iter().filter(|edit| edit.0 == source).count() as u64
