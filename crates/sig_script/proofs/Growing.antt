@@ -4,9 +4,8 @@ use Rattle.std.proofs.lemmas.List.Sums.{sum_by-append, sum_by-cons}
 use Rattle.std.proofs.Math.ListN.{get_or-map}
 use Rattle.sig_hist.specs.declared.edits.Edit.{Edit}
 use Rattle.sig_script.specs.Growths.{clipped}
-use Rattle.sig_script.specs.Rooms.{edits_on, is_growth, longest, with_shares}
+use Rattle.sig_script.specs.Rooms.{edits_on, is_growth, longest}
 use Rattle.sig_script.specs.declared.rooms.Growth.{Growth}
-use Rattle.sig_script.specs.declared.types.ShareDef.{ShareDef}
 
 pub record Grows (growth : Growth) (left all : List Edit) : Type 0 where
   pub longest : max growth.longest (longest left) ≡ longest all
@@ -31,9 +30,3 @@ clipped_total rooms exact [] same = refl
 clipped_total rooms exact (leaf ∷ leaves) same =
     let here : get_or rooms leaf 0 ≡ clipped (get_or exact leaf 0) = rw same (get_or-map clipped exact leaf 0) in
     rw (sum_by-cons (λ n. n) (get_or rooms leaf 0), sum_by-cons (λ n. n) (get_or exact leaf 0), here) (omega (arith, clipped_total rooms exact leaves same))
-
--- the rooms so far are clipped, and those of the shares that are left come behind them
-pub record WithShares (rooms : List ℕ) (left : List ShareDef) (all : List ℕ) : Type 0 where
-  pub exact : List ℕ
-  pub are_clipped : rooms ≡ map clipped exact
-  pub go_on : with_shares exact left ≡ all

@@ -129,7 +129,30 @@ class_of_view shown.Map = class.Map
 class_of_view shown.Entries = class.Map
 class_of_view shown.Enumerate = class.Vector
 
--- the field of an edit that says what is done, beside the one that says on which source
+-- the field of an edit that says what is done, beside the one that says on which source: of an edit of a map
+abbrev pub map_field : Members → Option (Operation × Data)
+map_field members =
+    option_or (option_map (λ value. (operation.Put, value)) (get_member (codes "put") members))
+    (option_or (option_map (λ value. (operation.Delete, value)) (get_member (codes "delete") members))
+    (option_or (option_map (λ value. (operation.Load, value)) (get_member (codes "load") members))
+    (option_map (λ value. (operation.Wipe, value)) (get_member (codes "wipe") members))))
+
+-- of a cell, and then of a map
+abbrev pub cell_field : Members → Option (Operation × Data)
+cell_field members =
+    option_or (option_map (λ value. (operation.Set, value)) (get_member (codes "set") members))
+    (option_or (option_map (λ value. (operation.SetNeq, value)) (get_member (codes "set_neq") members))
+    (option_or (option_map (λ value. (operation.Add, value)) (get_member (codes "add") members))
+    (map_field members)))
+
+-- at the end of a vector or of all of it, and then of the others
+abbrev pub end_field : Members → Option (Operation × Data)
+end_field members =
+    option_or (option_map (λ value. (operation.Push, value)) (get_member (codes "push") members))
+    (option_or (option_map (λ value. (operation.Pop, value)) (get_member (codes "pop") members))
+    (option_or (option_map (λ value. (operation.Clear, value)) (get_member (codes "clear") members))
+    (cell_field members)))
+
 abbrev pub operation_field : Members → Option (Operation × Data)
 operation_field members =
     option_or (option_map (λ value. (operation.Replace, value)) (get_member (codes "replace") members))
@@ -137,16 +160,7 @@ operation_field members =
     (option_or (option_map (λ value. (operation.Update, value)) (get_member (codes "update") members))
     (option_or (option_map (λ value. (operation.Remove, value)) (get_member (codes "remove") members))
     (option_or (option_map (λ value. (operation.Move, value)) (get_member (codes "move") members))
-    (option_or (option_map (λ value. (operation.Push, value)) (get_member (codes "push") members))
-    (option_or (option_map (λ value. (operation.Pop, value)) (get_member (codes "pop") members))
-    (option_or (option_map (λ value. (operation.Clear, value)) (get_member (codes "clear") members))
-    (option_or (option_map (λ value. (operation.Set, value)) (get_member (codes "set") members))
-    (option_or (option_map (λ value. (operation.SetNeq, value)) (get_member (codes "set_neq") members))
-    (option_or (option_map (λ value. (operation.Add, value)) (get_member (codes "add") members))
-    (option_or (option_map (λ value. (operation.Put, value)) (get_member (codes "put") members))
-    (option_or (option_map (λ value. (operation.Delete, value)) (get_member (codes "delete") members))
-    (option_or (option_map (λ value. (operation.Load, value)) (get_member (codes "load") members))
-    (option_map (λ value. (operation.Wipe, value)) (get_member (codes "wipe") members)))))))))))))))
+    (end_field members)))))
 
 abbrev pub operation_name : Operation → List ℕ
 operation_name operation.Replace = codes "replace"

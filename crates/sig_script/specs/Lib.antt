@@ -12,7 +12,6 @@ pub mod Limits
 pub mod NamePasses
 pub mod NameTables
 pub mod Names
-pub mod Operations
 pub mod Parts
 pub mod Paths
 pub mod Plans

@@ -1,17 +1,11 @@
 -- The names of a document's lists, and their faults, by what is named.
-use Rattle.std.specs.Prelude.{ℕ, List, Option, None}
-use Rattle.std.specs.Option.{option_map_or}
+use Rattle.std.specs.Prelude.{ℕ, List, Option}
 use Rattle.serde_json.specs.Data.{Data}
-use Rattle.sig_script.specs.Fields.{members_in}
-use Rattle.sig_script.specs.Grammar.{class_of_view, view_field, view_kind_name}
-use Rattle.sig_script.specs.Names.{kind_in, known_names, new_name_fault, share_names, view_names, writer_names}
-use Rattle.sig_script.specs.Paths.{below}
-use Rattle.sig_script.specs.Walks.{expression_fault}
+use Rattle.sig_script.specs.Names.{kind_in, new_name_fault, share_names, view_names, writer_names}
 use Rattle.sig_script.specs.declared.document_names.Named.{Named}
 use Rattle.sig_script.specs.declared.document_names.Named.TheVariants as named
 use Rattle.sig_script.specs.declared.grammar.Meaning.{Meaning}
 use Rattle.sig_script.specs.declared.grammar.Meaning.TheVariants.{Source, Share, Writer, View}
-use Rattle.sig_script.specs.declared.grammar.ViewKind.{ViewKind}
 
 -- what the name of a value with a number stands for
 abbrev pub stands_for : Named → ℕ → Data → Meaning
@@ -26,8 +20,3 @@ named_fault named.Source = new_name_fault
 named_fault named.Share = share_names
 named_fault named.Writer = writer_names
 named_fault named.View = view_names
-
--- the fault of the names that a view shows
-abbrev pub shown_names : List (List ℕ × Meaning) → Data → Option (List ℕ)
-shown_names names value =
-    option_map_or (λ (field : ViewKind × Data). below (view_kind_name field.0) (expression_fault (known_names names) (class_of_view field.0) field.1)) (view_field (members_in value)) None

@@ -91,10 +91,13 @@ module _ (names : List (List ℕ × Meaning)) where
   abbrev pub writer_names : Data → Option (List ℕ)
   writer_names value = option_or (new_name_fault value) (below (codes "edits") (first_in (λ place. edit_names) (list_at (codes "edits") (members_in value))))
 
+  -- what a view shows
+  abbrev pub shown_names : Data → Option (List ℕ)
+  shown_names value =
+      option_map_or (λ (field : ViewKind × Data). below (view_kind_name field.0) (expression_fault known_names (class_of_view field.0) field.1)) (view_field (members_in value)) None
+
   abbrev pub view_names : Data → Option (List ℕ)
-  view_names value =
-      option_or (new_name_fault value)
-      (option_map_or (λ (field : ViewKind × Data). below (view_kind_name field.0) (expression_fault known_names (class_of_view field.0) field.1)) (view_field (members_in value)) None)
+  view_names value = option_or (new_name_fault value) (shown_names value)
 
 -- ---- the document
 

@@ -1,17 +1,11 @@
--- What of an expression or a share can get too big, part by part.
-use Rattle.std.specs.Prelude.{ℕ, List, nat_le, Option, None, codes}
+-- What of a list can get too big, part by part.
+use Rattle.std.specs.Prelude.{ℕ, List, Option, None, codes}
 use Rattle.std.specs.Option.{option_or}
-use Rattle.sig_expr.specs.Shapes.{sig_tree}
 use Rattle.sig_expr.specs.Trees.{VecTree, vector, mapped, filtered, filtered_by, mapped_by, sorted, joined, flattened, picked, keys_in, values_in}
-use Rattle.sig_expr.specs.declared.expressions.SigExpr.{SigExpr}
-use Rattle.sig_script.specs.Paths.{below, here_unless}
+use Rattle.sig_script.specs.Paths.{below}
 use Rattle.sig_script.specs.Sizes.{map_size, sig_size, sigs_size, vec_size, vecs_size}
 
 module _ (cap : ℕ → ℕ) where
-  -- a share with a room
-  abbrev pub share_size : ℕ → SigExpr → Option (List ℕ)
-  share_size room signal = option_or (here_unless (nat_le room 1048576)) (below (codes "signal") (sig_size cap (sig_tree signal)))
-
   -- the parts of a list, without the list itself
   abbrev pub vec_parts : VecTree ℕ → Option (List ℕ)
   vec_parts (vector source) = None

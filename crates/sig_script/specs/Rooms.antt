@@ -66,11 +66,3 @@ source_rooms writers number (source ∷ sources) = sum (map (writer_room number)
 -- a share can set its cell once at its start and once for each entry of its leaves' sources, and leaves
 abbrev pub share_room : List ℕ → SigExpr → ℕ
 share_room rooms signal = 2 + sum (map (λ source. get_or rooms source 0) (sig_leaves (sig_tree signal)))
-
--- the rooms with those of some shares behind them
-abbrev pub with_shares : List ℕ → List ShareDef → List ℕ
-with_shares rooms [] = rooms
-with_shares rooms (share ∷ shares) = with_shares (rooms ++ share_room rooms share.signal ∷ []) shares
-
-abbrev pub rooms_of : Script → List ℕ
-rooms_of script = with_shares (source_rooms script.writers 0 script.sources) script.shares

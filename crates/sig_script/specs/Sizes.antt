@@ -4,6 +4,7 @@ use Rattle.std.specs.Option.{option_or}
 use Rattle.sig_expr.specs.Bounds.{cap_of, map_bound, vec_bound}
 use Rattle.sig_expr.specs.Shapes.{map_tree, sig_tree, vec_tree}
 use Rattle.sig_expr.specs.Trees.{MapTree, map_source, mapped_values, SigTree, cell, mapped_signal, deduped, switched, length_of, total_of, at_key, VecTree, vector, mapped, filtered, filtered_by, mapped_by, sorted, joined, flattened, picked, keys_in, values_in, SigTrees, no_signals, more_signals, VecTrees, no_lists, more_lists}
+use Rattle.sig_expr.specs.declared.expressions.SigExpr.{SigExpr}
 use Rattle.sig_expr.specs.declared.expressions.View.{View}
 use Rattle.sig_expr.specs.declared.expressions.View.TheVariants.{Signal, Vector, Map, Entries, Enumerate}
 use Rattle.sig_script.specs.Paths.{below, here_unless}
@@ -68,12 +69,16 @@ module _ (cap : ℕ → ℕ) where
   views_size place [] = None
   views_size place (view ∷ views) = option_or (below (decimal place) (view_size view.view)) (views_size (place + 1) views)
 
+  -- a share with a room
+  abbrev pub share_size : ℕ → SigExpr → Option (List ℕ)
+  share_size room signal = option_or (here_unless (nat_le room 1048576)) (below (codes "signal") (sig_size (sig_tree signal)))
+
   -- the shares, by the rooms of the sources before them
   abbrev pub shares_size : List ℕ → ℕ → List ShareDef → Option (List ℕ)
   shares_size rooms place [] = None
   shares_size rooms place (share ∷ shares) =
-      option_or (below (decimal place) (option_or (here_unless (nat_le (share_room rooms share.signal) 1048576)) (below (codes "signal") (sig_size (sig_tree share.signal)))))
-      (shares_size (rooms ++ share_room rooms share.signal ∷ []) (place + 1) shares)
+      let room = share_room rooms share.signal in
+      option_or (below (decimal place) (share_size room share.signal)) (shares_size (rooms ++ room ∷ []) (place + 1) shares)
 
 abbrev pub size_fault : Script → Option (List ℕ)
 size_fault script =

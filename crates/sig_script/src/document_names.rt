@@ -2,8 +2,8 @@ ghost use Rattle.std.specs.Prelude.{◌≡◌, ◌+◌, ◌++◌, codes, length,
 ghost use Rattle.serde_json.specs.View.{view, items_view};
 ghost use Rattle.sig_script.specs.Fields.{item_count, list_at, members_in, value_at};
 ghost use Rattle.sig_script.specs.Finding.{Finds};
-ghost use Rattle.sig_script.specs.NamePasses.{named_fault, shown_names, stands_for};
-ghost use Rattle.sig_script.specs.Names.{after_names, all_names, is_edited, is_scheduled, kind_in, known_fault, known_names, names_fault, names_from, new_name_fault, share_names, view_names, writer_names};
+ghost use Rattle.sig_script.specs.NamePasses.{named_fault, stands_for};
+ghost use Rattle.sig_script.specs.Names.{after_names, all_names, is_edited, is_scheduled, kind_in, known_fault, known_names, names_fault, names_from, new_name_fault, share_names, shown_names, view_names, writer_names};
 ghost use Rattle.sig_script.specs.Paths.{below, first_in};
 ghost use Rattle.sig_script.specs.Walks.{expression_fault};
 

@@ -1,8 +1,8 @@
-ghost use Rattle.std.specs.Prelude.{◌≡◌, [], None, Some, codes};
+ghost use Rattle.std.specs.Prelude.{◌≡◌, [], None, Some, IfOk, IfErr, codes};
 ghost use Rattle.std.specs.Option.{option_map_or};
-ghost use Rattle.serde_json.specs.Find.{as_array};
+ghost use Rattle.serde_json.specs.Find.{as_array, as_object};
 ghost use Rattle.serde_json.specs.View.{view, items_view, members_view};
-ghost use Rattle.sig_script.specs.Finding.{Finds};
+ghost use Rattle.sig_script.specs.Finding.{Finds, Stops};
 ghost use Rattle.sig_script.specs.Paths.{first_in, in_field};
 ghost use Rattle.sig_script.specs.Shapes.{content_fault, document_in, edit_in, entries_fault, entries_from, entry_fault, expression_shape, has_fields, key_of, name_fault, operation_fault, pair_fault, pair_in, present, rises, share_in, shape_fault, source_in, version_fault, view_in, writer_in, yes_fault};
 
@@ -16,7 +16,7 @@ use crate::paths::{Finder, Stop, below, below_place, first_in, here_unless};
 use crate::shapes::{Shapes, has, name_fault, number_fault, number_in};
 use crate::walks::expression_fault;
 use serde_json::{Map, Value};
-use sig_diff::Kind;
+use sig_diff::{Kind, Text};
 use std::alloc::Global;
 
 /// The first fault of shape of a document: a value that isn't of the kind that is asked, or an object with
@@ -24,10 +24,17 @@ use std::alloc::Global;
 pub fn shape_fault(alloc: Global, document: &Value) -> Result<(), Stop>
     ensures { Finds result (shape_fault (view document.now)) }
 {
-    match document.as_object() {
-        Some(fields) => document_in(alloc, fields),
-        None => here_unless(alloc, false),
-    }
+    document_in(alloc, fields_of(alloc, document)?)
+}
+
+/// The fields of a value, or the fault that it is no object.
+fn fields_of<'v>(alloc: Global, value: &'v Value) -> Result<&'v Map<String, Value>, Stop>
+    ensures ok { IfOk result (λ fields. as_object (view value.now) ≡ Some (members_view fields.now.entries)) }
+    ensures err { IfErr result (λ stop. (as_object (view value.now) ≡ None) × Stops stop (Some [])) }
+{
+    value
+        .as_object()
+        .ok_or_else(|| Stop::Fault(Text::new(alloc)))
 }
 
 fn document_in(alloc: Global, fields: &Map<String, Value>) -> Result<(), Stop>
@@ -149,10 +156,7 @@ impl Finder for Sources {
     ghost finds = { λ _ _ value. object_fault source_in value };
 
     fn fault(&self, alloc: Global, _place: usize, value: &Value) -> Result<(), Stop> {
-        match value.as_object() {
-            Some(fields) => source_in(alloc, fields),
-            None => here_unless(alloc, false),
-        }
+        source_in(alloc, fields_of(alloc, value)?)
     }
 }
 
@@ -164,10 +168,7 @@ impl Finder for Shares {
     ghost finds = { λ _ _ value. object_fault share_in value };
 
     fn fault(&self, alloc: Global, _place: usize, value: &Value) -> Result<(), Stop> {
-        match value.as_object() {
-            Some(fields) => share_in(alloc, fields),
-            None => here_unless(alloc, false),
-        }
+        share_in(alloc, fields_of(alloc, value)?)
     }
 }
 
@@ -179,10 +180,7 @@ impl Finder for Writers {
     ghost finds = { λ _ _ value. object_fault writer_in value };
 
     fn fault(&self, alloc: Global, _place: usize, value: &Value) -> Result<(), Stop> {
-        match value.as_object() {
-            Some(fields) => writer_in(alloc, fields),
-            None => here_unless(alloc, false),
-        }
+        writer_in(alloc, fields_of(alloc, value)?)
     }
 }
 
@@ -194,10 +192,7 @@ impl Finder for Edits {
     ghost finds = { λ _ _ value. edit_shape value };
 
     fn fault(&self, alloc: Global, _place: usize, value: &Value) -> Result<(), Stop> {
-        match value.as_object() {
-            Some(fields) => edit_in(alloc, fields),
-            None => here_unless(alloc, false),
-        }
+        edit_in(alloc, fields_of(alloc, value)?)
     }
 }
 
@@ -209,10 +204,7 @@ impl Finder for Views {
     ghost finds = { λ _ _ value. object_fault view_in value };
 
     fn fault(&self, alloc: Global, _place: usize, value: &Value) -> Result<(), Stop> {
-        match value.as_object() {
-            Some(fields) => view_in(alloc, fields),
-            None => here_unless(alloc, false),
-        }
+        view_in(alloc, fields_of(alloc, value)?)
     }
 }
 

@@ -19,6 +19,8 @@ mod names;
 mod objects;
 mod paths;
 mod planning;
+#[cfg(test)]
+mod planning_tests;
 mod reader;
 #[cfg(test)]
 mod reader_tests;

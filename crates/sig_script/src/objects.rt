@@ -3,8 +3,7 @@ ghost use Rattle.serde_json.specs.Data.{Data};
 ghost use Rattle.serde_json.specs.Find.{get_member};
 ghost use Rattle.serde_json.specs.View.{view, members_view};
 ghost use Rattle.sig_script.specs.Fields.{members_in};
-ghost use Rattle.sig_script.specs.Grammar.{class_of_view, content_field, kind_for, kind_name, operation_field, operation_name, view_field, view_kind_name};
-ghost use Rattle.sig_script.specs.Operations.{cell_field, end_field, map_field};
+ghost use Rattle.sig_script.specs.Grammar.{cell_field, class_of_view, content_field, end_field, kind_for, kind_name, map_field, operation_field, operation_name, view_field, view_kind_name};
 
 use crate::fields::field;
 use crate::grammar::{Class, Operation, ViewKind};

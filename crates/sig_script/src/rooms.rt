@@ -1,7 +1,7 @@
 ghost use Rattle.std.specs.Prelude.{◌≡◌, ◌+◌, ◌-◌, ◌^◌, ℕ, List, map, sum, get_or, length, count_by, min, max, if◌then◌else◌, IfOk};
 ghost use Rattle.sig_hist.specs.Changes.{size_of};
 ghost use Rattle.sig_script.specs.Growths.{clipped};
-ghost use Rattle.sig_script.specs.Rooms.{all_edits_on, cap_for, caps_of, edits_on, is_growth, longest, replaced_length, rooms_of, share_room, source_caps, source_rooms, writer_room};
+ghost use Rattle.sig_script.specs.Rooms.{all_edits_on, cap_for, caps_of, edits_on, is_growth, longest, replaced_length, share_room, source_caps, source_rooms, writer_room};
 
 use crate::types::{Script, SourceDef, WriterDef};
 use sig_diff::{Content, Items, NoMemory, VecDiff};
@@ -149,19 +149,7 @@ fn replaced_length(edit: &Edit) -> u64
     }
 }
 
-/// How many entries the histories of a script's sources can have, and those of its shares behind them; 2^64 - 1
-/// where it is that or more.
-pub fn rooms(alloc: Global, script: &Script) -> Result<Rooms, NoMemory>
-    ensures { IfOk result (λ rooms. rooms ≡ map clipped (rooms_of script.now)) }
-{
-    let mut rooms = source_rooms(alloc, script)?;
-    'shares: for share in script.shares.as_slice() {
-        rooms.push(share_room(alloc, rooms.as_slice(), &share.signal)?)?;
-    }
-    Ok(rooms)
-}
-
-/// The rooms of the sources, counted as `rooms` counts.
+/// The rooms of the sources; 2^64 - 1 where one is that or more.
 pub fn source_rooms(alloc: Global, script: &Script) -> Result<Rooms, NoMemory>
     ensures { let script = script.now in
         IfOk result (λ rooms. rooms ≡ map clipped (source_rooms script.writers 0 script.sources)) }
@@ -201,7 +189,7 @@ pub fn count_on(source: usize, edits: &[(usize, Edit)]) -> u64
     edits.iter().filter(|edit| edit.0 == source).count() as u64
 }
 
-/// The room of a share after these rooms, counted as `rooms` counts.
+/// The room of a share after these rooms; 2^64 - 1 where it is that or more.
 pub fn share_room(alloc: Global, rooms: &[u64], signal: &SigExpr) -> Result<u64, NoMemory>
     ensures { (exact : List ℕ) → rooms.now ≡ map clipped exact
         → IfOk result (λ room. room ≡ clipped (share_room exact signal.now)) }

@@ -3,9 +3,9 @@ ghost use Rattle.sig_expr.specs.Bounds.{cap_of};
 ghost use Rattle.sig_expr.specs.Shapes.{map_tree, sig_tree, sig_trees, vec_tree, vec_trees};
 ghost use Rattle.sig_script.specs.Finding.{Finds};
 ghost use Rattle.sig_script.specs.Growths.{clipped};
-ghost use Rattle.sig_script.specs.Parts.{share_size, vec_parts};
+ghost use Rattle.sig_script.specs.Parts.{vec_parts};
 ghost use Rattle.sig_script.specs.Rooms.{source_rooms};
-ghost use Rattle.sig_script.specs.Sizes.{is_short, map_size, shares_size, sig_size, sigs_size, size_fault, vec_size, vecs_size, view_size, views_size};
+ghost use Rattle.sig_script.specs.Sizes.{is_short, map_size, share_size, shares_size, sig_size, sigs_size, size_fault, vec_size, vecs_size, view_size, views_size};
 
 use crate::paths::{Stop, below, below_place, here_unless};
 use crate::rooms::{caps, share_room, source_rooms};

@@ -1,4 +1,5 @@
-use crate::script::{FirstEdit, FirstEvent, ScriptError, first_script};
+use crate::refusals::ScriptError;
+use crate::script::{FirstEdit, FirstEvent, first_script};
 use std::alloc::{AllocError, Global};
 use std::test::Fail;
 
