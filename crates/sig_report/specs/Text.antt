@@ -2,6 +2,7 @@
 use Rattle.std.specs.Prelude.{ℕ, ◌+◌, ℤ, List, [], ◌∷◌, ◌++◌, map, get_or, codes, decimal, Option, None, Some}
 use Rattle.std.specs.List.{flat_map}
 use Rattle.std.specs.Fmt.{signed_decimal}
+use Rattle.sig_diff.specs.Contents.{kind_of}
 use Rattle.sig_diff.specs.declared.contents.Content.{Content}
 use Rattle.sig_diff.specs.declared.contents.Content.TheVariants as content
 use Rattle.sig_diff.specs.declared.contents.Tagged.{Tagged}
@@ -19,7 +20,7 @@ use Rattle.sig_hist.specs.declared.edits.Reply.TheVariants.{Fine, Was, Same, Abs
 use Rattle.sig_report.specs.declared.report.Report.{Report}
 use Rattle.sig_report.specs.declared.report.SourceReport.{SourceReport}
 use Rattle.sig_report.specs.declared.report.ViewReport.{ViewReport}
-use Rattle.sig_script.specs.Grammar.{view_kind_name}
+use Rattle.sig_script.specs.Grammar.{kind_name, view_kind_name}
 use Rattle.sig_script.specs.declared.types.Script.{Script}
 use Rattle.sig_script.specs.declared.types.ShareDef.{ShareDef}
 use Rattle.sig_script.specs.declared.types.WriterDef.{WriterDef}
@@ -122,17 +123,12 @@ abbrev pub entries_text : List (List ℕ) → ℕ → List Entry → List ℕ
 entries_text names number [] = []
 entries_text names number (entry ∷ entries) = entry_line names number entry ++ entries_text names (number + 1) entries
 
-abbrev pub content_kind : Content → List ℕ
-content_kind (content.Cell value) = codes "cell"
-content_kind (content.Vector items) = codes "vector"
-content_kind (content.Map entries) = codes "map"
-
 abbrev pub final_line : List ℕ → List ℕ
 final_line last = codes "final " ++ last ++ codes "\n"
 
 abbrev pub source_text : List (List ℕ) → SourceReport → List ℕ
 source_text names source =
-    codes "source " ++ source.name ++ codes " " ++ content_kind source.start ++ codes " " ++ content_text source.start ++ codes "\n"
+    codes "source " ++ source.name ++ codes " " ++ kind_name (kind_of source.start) ++ codes " " ++ content_text source.start ++ codes "\n"
     ++ entries_text names 1 source.history ++ final_line (content_text source.last)
 
 -- ---- views

@@ -1,14 +1,13 @@
 ghost use Rattle.std.specs.Prelude.{◌≡◌, ◌++◌, ◌<◌, ◌^◌, ℕ, List, All, codes, map, length, OnOk, IfOk};
 ghost use Rattle.std.specs.List.{flat_map};
-ghost use Rattle.sig_script.specs.Grammar.{view_kind_name};
-ghost use Rattle.sig_report.specs.Text.{content_kind, entry_line, entries_text, final_line, name_of_caller, caller_names, source_text, report_text};
+ghost use Rattle.sig_report.specs.Text.{entry_line, entries_text, final_line, name_of_caller, caller_names, source_text, report_text};
 
 use crate::printing::{Printed, print_all, print_given, print_joined, print_one, print_two};
 use crate::report::{Report, SourceReport, ViewReport};
 use sig_diff::{Content, NoMemory};
 use sig_expr::Shown;
 use sig_hist::{Edit, Entry, Reply};
-use sig_script::{Script, ViewKind};
+use sig_script::{Script, kind_name, view_kind_name};
 use sig_view::{Body, Row};
 use std::alloc::Global;
 
@@ -128,28 +127,6 @@ impl Printed for ViewReport {
     }
 }
 
-fn content_kind(content: &Content) -> &'static str
-    ensures { result.now ≡ content_kind content.now }
-{
-    match content {
-        Content::Cell(_) => "cell",
-        Content::Vector(_) => "vector",
-        Content::Map(_) => "map",
-    }
-}
-
-fn view_kind_name(kind: ViewKind) -> &'static str
-    ensures { result.now ≡ view_kind_name kind }
-{
-    match kind {
-        ViewKind::Signal => "signal",
-        ViewKind::Vector => "vector",
-        ViewKind::Map => "map",
-        ViewKind::Entries => "entries",
-        ViewKind::Enumerate => "enumerate",
-    }
-}
-
 /// The name of a caller, by the writers and then the shares.
 fn name_of_caller(script: &Script, caller: u32) -> &[u8]
     ensures { result.now ≡ name_of_caller (caller_names script.now) caller }
@@ -220,7 +197,7 @@ fn print_source(out: &mut Vec<u8>, script: &Script, source: &SourceReport) -> Re
         out,
         b"source ",
         source.name.as_slice(),
-        content_kind(&source.start),
+        kind_name(source.start.kind()),
     )?;
     print_one(out, b" ", &source.start)?;
     out.extend_from_slice(b"\n")?;

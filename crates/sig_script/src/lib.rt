@@ -36,6 +36,7 @@ mod types;
 mod walks;
 
 pub use grammar::ViewKind;
+pub use objects::{kind_name, view_kind_name};
 pub use planning::plans;
 pub use reader::read_script;
 pub use refusals::ScriptError;

@@ -5,11 +5,11 @@ ghost use Rattle.sig_script.specs.Growths.{clipped};
 ghost use Rattle.sig_script.specs.Plans.{allowances, plans_of, source_plans};
 ghost use Rattle.sig_script.specs.Rooms.{all_edits_on, cap_for};
 
-use crate::rooms::{cap_of, count_on, share_room, source_room, source_rooms};
+use crate::rooms::{cap_of, count_on, fitted, share_room, source_room, source_rooms};
 use crate::types::{Script, ShareDef, SourceDef, WriterDef};
 use sig_diff::{Content, Items, NoMemory, TryCopy};
 use sig_hist::{Allowance, Allowances, Plans, SourcePlan};
-use std::alloc::{AllocError, Global};
+use std::alloc::Global;
 
 /// The plan of each source of a script, and behind them of each share's cell. What fits no u32, which no script
 /// within its limits has, counts as want of memory.
@@ -58,6 +58,7 @@ fn source_plan(
     ensures allow { IfOk result (λ plan. plan.allow ≡ allowances number 0 writers.now) }
     ensures is_plan { IfOk result IsPlan }
 {
+    // A plan is one whose room fits too.
     let _room = fitted(source_room(number, writers))?;
     Ok(SourcePlan {
         start: source.start.copy()?,
@@ -120,11 +121,4 @@ fn share_plan(
         cap: 1,
         allow,
     })
-}
-
-/// A number as a u32, or want of memory where it doesn't fit.
-fn fitted(number: u64) -> Result<u32, NoMemory>
-    ensures { IfOk result (λ fitted. fitted ≡ number) }
-{
-    u32::try_from(number).map_err(|_| AllocError)
 }

@@ -52,8 +52,14 @@ fn source_caps(
 pub fn cap_of(source: &SourceDef, number: usize, writers: &[WriterDef]) -> Result<u32, NoMemory>
     ensures { IfOk result (λ cap. cap ≡ cap_for source.now.start (all_edits_on number writers.now)) }
 {
-    let cap = cap_for(&source.start, growth_of(number, writers));
-    u32::try_from(cap).map_err(|_| AllocError)
+    fitted(cap_for(&source.start, growth_of(number, writers)))
+}
+
+/// A number as a u32, or want of memory where it doesn't fit.
+pub fn fitted(number: u64) -> Result<u32, NoMemory>
+    ensures { IfOk result (λ fitted. fitted ≡ number) }
+{
+    u32::try_from(number).map_err(|_| AllocError)
 }
 
 /// How long a source can get that starts so; 2^64 - 1 where it is that or more.
