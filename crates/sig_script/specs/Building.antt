@@ -233,15 +233,16 @@ module _ (names : List (List ℕ × Meaning)) (sources : ℕ) where
   abbrev pub event_def : Data → Event
   event_def value = event_for (meaning names (text_in value))
 
+-- the script that a document says, where its names stand for this and it has so many sources
+abbrev pub script_among : List (List ℕ × Meaning) → ℕ → Members → Script
+script_among names sources members = record {
+  version = 1;
+  sources = defs source_def (list_at (codes "sources") members);
+  shares = defs (share_def names sources) (list_at (codes "shares") members);
+  writers = defs (writer_def names sources) (list_at (codes "writers") members);
+  views = defs (view_def names sources) (list_at (codes "views") members);
+  schedule = defs (event_def names sources) (list_at (codes "schedule") members);
+}
+
 abbrev pub script_of : Members → Script
-script_of members =
-    let names = all_names members in
-    let sources = item_count (list_at (codes "sources") members) in
-    record {
-      version = 1;
-      sources = defs source_def (list_at (codes "sources") members);
-      shares = defs (share_def names sources) (list_at (codes "shares") members);
-      writers = defs (writer_def names sources) (list_at (codes "writers") members);
-      views = defs (view_def names sources) (list_at (codes "views") members);
-      schedule = defs (event_def names sources) (list_at (codes "schedule") members);
-    }
+script_of members = script_among (all_names members) (item_count (list_at (codes "sources") members)) members

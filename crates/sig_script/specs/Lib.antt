@@ -18,7 +18,6 @@ pub mod Plans
 pub mod Reading
 pub mod Rooms
 pub mod Schedules
-pub mod Scopes
 pub mod Script
 pub mod SelfContained
 pub mod Shapes

@@ -3,11 +3,10 @@ ghost use Rattle.std.specs.Option.{option_map_or};
 ghost use Rattle.serde_json.specs.Data.{null};
 ghost use Rattle.serde_json.specs.View.{view, items_view};
 ghost use Rattle.sig_diff.specs.Entries.{with_value};
-ghost use Rattle.sig_script.specs.Building.{content_from, defs, edit_def, edit_from, entries_in, event_def, event_for, index_in, item_in, number_in, numbers_in, script_of, share_def, source_def, source_for, view_def, view_of, writer_def};
+ghost use Rattle.sig_script.specs.Building.{content_from, defs, edit_def, edit_from, entries_in, event_def, event_for, index_in, item_in, number_in, numbers_in, script_among, script_of, share_def, source_def, source_for, view_def, view_of, writer_def};
 ghost use Rattle.sig_script.specs.Fields.{item_count, list_at, members_in, value_at};
 ghost use Rattle.sig_script.specs.Leaving.{has_no_leaves};
 ghost use Rattle.sig_script.specs.Names.{all_names, name_in};
-ghost use Rattle.sig_script.specs.Scopes.{script_among};
 
 use crate::building::{Builder, defs, index_in, item_in, number_in};
 use crate::expressions::{Scope, signal_of, source_for, view_of};
