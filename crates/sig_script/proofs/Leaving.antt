@@ -13,7 +13,7 @@ use Rattle.sig_script.specs.declared.grammar.Meaning.{Meaning}
 use Rattle.sig_script.specs.declared.grammar.Operation.{Operation}
 use Rattle.sig_script.specs.declared.grammar.Operation.TheVariants.{Replace, Insert, Update, Remove, Move, Push, Pop, Clear, Set, SetNeq, Add, Put, Delete, Load, Wipe}
 
-all_defs : {T : Type 0} (test : T → Bool) (f : Data → T) → ((value : Data) → test (f value) ≡ true) → (values : Items) → list_all test (defs f values) ≡ true
+pub all_defs : {T : Type 0} (test : T → Bool) (f : Data → T) → ((value : Data) → test (f value) ≡ true) → (values : Items) → list_all test (defs f values) ≡ true
 all_defs test f passes no_items = refl
 all_defs test f passes (item value values) = rw (passes value) (all_defs test f passes values)
 

@@ -1,4 +1,5 @@
 pub mod Allowing
+pub mod BuiltLeaves
 pub mod Counts
 pub mod Finding
 pub mod Growing
@@ -8,5 +9,6 @@ pub mod NameTables
 pub mod Naming
 pub mod Reading
 pub mod Rising
+pub mod SelfContained
 pub mod Sizing
 pub mod Spending

@@ -1,5 +1,6 @@
-ghost use Rattle.std.specs.Prelude.{◌≡◌, IfOk};
+ghost use Rattle.std.specs.Prelude.{◌≡◌, None, IfOk};
 ghost use Rattle.sig_script.specs.Answering.{Answers};
+ghost use Rattle.sig_script.specs.Built.{unbuilt};
 ghost use Rattle.sig_script.specs.Reading.{built_script, checked_script, scheduled_script};
 
 use crate::built::unbuilt;
@@ -15,6 +16,7 @@ use std::alloc::Global;
 pub fn checked_script(alloc: Global, script: Script) -> Result<Script, ScriptError>
     ensures answer { Answers result (checked_script script) }
     ensures same { IfOk result (λ given. given ≡ script) }
+    ensures built { IfOk result (λ given. unbuilt given ≡ None) }
 {
     match size_fault(alloc, &script) {
         Ok(()) => scheduled_script(alloc, script),
@@ -26,6 +28,7 @@ pub fn checked_script(alloc: Global, script: Script) -> Result<Script, ScriptErr
 fn scheduled_script(alloc: Global, script: Script) -> Result<Script, ScriptError>
     ensures answer { Answers result (scheduled_script script) }
     ensures same { IfOk result (λ given. given ≡ script) }
+    ensures built { IfOk result (λ given. unbuilt given ≡ None) }
 {
     match schedule_fault(alloc, &script) {
         Ok(None) => built_script(alloc, script),
@@ -40,6 +43,7 @@ fn scheduled_script(alloc: Global, script: Script) -> Result<Script, ScriptError
 fn built_script(alloc: Global, script: Script) -> Result<Script, ScriptError>
     ensures answer { Answers result (built_script script) }
     ensures same { IfOk result (λ given. given ≡ script) }
+    ensures built { IfOk result (λ given. unbuilt given ≡ None) }
 {
     match unbuilt(alloc, &script) {
         Ok(()) => Ok(script),

@@ -1,10 +1,12 @@
-ghost use Rattle.std.specs.Prelude.{◌≡◌, true, Ok, IfOk, IfErr};
+ghost use Rattle.std.specs.Prelude.{◌≡◌, true, None, Ok, IfOk, IfErr};
 ghost use Rattle.serde_json.specs.View.{view};
 ghost use Rattle.sig_script.specs.Answering.{Answers};
+ghost use Rattle.sig_script.specs.Built.{unbuilt};
 ghost use Rattle.sig_script.specs.Fields.{members_in};
 ghost use Rattle.sig_script.specs.Leaving.{has_no_leaves};
 ghost use Rattle.sig_script.specs.Names.{all_names};
 ghost use Rattle.sig_script.specs.Reading.{IsRefusal, Reads, limited_script, named_script, reading};
+ghost use Rattle.sig_script.specs.SelfContained.{IsSelfContained};
 
 use crate::checks::checked_script;
 use crate::document_building::script_of;
@@ -23,6 +25,8 @@ use std::alloc::Global;
 pub fn read_script(alloc: Global, bytes: &[u8]) -> Result<Script, ScriptError>
     ensures ok { IfOk result (λ script. Reads bytes.now (Ok script)) }
     ensures no_leaves { IfOk result (λ script. has_no_leaves script ≡ true) }
+    ensures built { IfOk result (λ script. unbuilt script ≡ None) }
+    ensures self_contained { IfOk result IsSelfContained }
     ensures refused { IfErr result (IsRefusal bytes.now) }
 {
     match Value::from_slice(alloc, bytes) {
@@ -36,6 +40,8 @@ pub fn read_script(alloc: Global, bytes: &[u8]) -> Result<Script, ScriptError>
 fn reading(alloc: Global, document: &Value) -> Result<Script, ScriptError>
     ensures answer { Answers result (reading (view document.now)) }
     ensures no_leaves { IfOk result (λ script. has_no_leaves script ≡ true) }
+    ensures built { IfOk result (λ script. unbuilt script ≡ None) }
+    ensures self_contained { IfOk result IsSelfContained }
 {
     match shape_fault(alloc, document) {
         Ok(()) => named_script(alloc, document),
@@ -47,6 +53,8 @@ fn reading(alloc: Global, document: &Value) -> Result<Script, ScriptError>
 fn named_script(alloc: Global, document: &Value) -> Result<Script, ScriptError>
     ensures answer { Answers result (named_script (members_in (view document.now))) }
     ensures no_leaves { IfOk result (λ script. has_no_leaves script ≡ true) }
+    ensures built { IfOk result (λ script. unbuilt script ≡ None) }
+    ensures self_contained { IfOk result IsSelfContained }
 {
     match names_of(alloc, document) {
         Ok(names) => limited_script(alloc, document, &names),
@@ -63,6 +71,8 @@ fn limited_script(
     requires { names.now ≡ all_names (members_in (view document.now)) }
     ensures answer { Answers result (limited_script (members_in (view document.now))) }
     ensures no_leaves { IfOk result (λ script. has_no_leaves script ≡ true) }
+    ensures built { IfOk result (λ script. unbuilt script ≡ None) }
+    ensures self_contained { IfOk result IsSelfContained }
 {
     match limits_fault(alloc, document) {
         Ok(()) => match script_of(alloc, document, names) {
