@@ -5,7 +5,7 @@ use Rattle.std.proofs.lemmas.Bool.{eqb-true, or_parts}
 use Rattle.std.proofs.lemmas.List.Folds.{list_all-append}
 use Rattle.std.proofs.lemmas.List.Sums.{sum_by-cons, sum_by-set}
 use Rattle.std.proofs.lemmas.List.{length_push, map-set, set-get_or}
-use Rattle.std.specs.List.{list_all}
+use Rattle.std.specs.List.{list_all, list_any}
 use Rattle.sig_diff.specs.declared.contents.Content.{Content}
 use Rattle.sig_hist.proofs.Entries.{state_append, legal_append, own_entries_own, own_entries_other, ends_with_leave_append, leave_stays, leave_is_fine}
 use Rattle.sig_hist.specs.Changes.{edited, reply_to, size_of}
@@ -60,6 +60,10 @@ is_out false entries edits left is = grind (arith, nat_tests)
 pub are_out : (history : List Entry) (writers : List Writer) → AreCounted history writers → list_all (λ (writer : Writer). writer.left == 0) writers ≡ is_closed (writers_of (allowances_of writers)) history
 are_out history [] counted = refl
 are_out history (writer ∷ writers) counted = ap₂ (λ (one others : Bool). one && others) (is_out _ _ _ _ counted.0) (are_out history writers counted.1)
+
+pub are_among : (number : ℕ) (writers : List Writer) → list_any (λ (writer : Writer). writer.allowance.writer == number) writers ≡ is_among number (writers_of (allowances_of writers))
+are_among number [] = refl
+are_among number (writer ∷ writers) = ap (λ (others : Bool). (writer.allowance.writer == number) || others) (are_among number writers)
 
 -- ---- the writer of an entry
 

@@ -7,7 +7,7 @@ use Rattle.std.proofs.lemmas.List.Edits.{map_over_more}
 use Rattle.std.proofs.lemmas.List.Elements.{All-map, All-set, All-tail, All-weaker}
 use Rattle.sig_hist.proofs.Counts.{kept_start}
 use Rattle.sig_hist.specs.Entering.{entering_from}
-use Rattle.sig_hist.specs.OneThread.{OneThread, IsOneThread, no_source, no_leaf, source_at, leaf_at, version_of, known, leaf_checked, leaf_settled, leaf_armed, source_of, leaf_of}
+use Rattle.sig_hist.specs.OneThread.{OneThread, IsOneThread, no_source, no_leaf, source_at, leaf_at, version_of, known, after_leave, leaf_checked, leaf_settled, leaf_armed, source_of, leaf_of}
 use Rattle.sig_hist.specs.Ports.{IsSoundPort, put, looked, at_rest, armed, seen_of, IsFetch, IsFetchInVain, IsFetchRefusal}
 use Rattle.sig_hist.specs.Sources.{Source, IsPlan, IsSource, room_of}
 use Rattle.sig_hist.specs.declared.plain.PlainLeaf.{PlainLeaf}
@@ -25,6 +25,11 @@ pub changed_more : {X : Type 0} (f : X → X) (xs ys : List X) (at : ℕ) (defau
     slice_set ys at y ≡ map f (take (at + 1) xs) ++ drop (at + 1) xs
 changed_more f xs ys at default y within long is read =
     rw read (map_over_more f xs ys at (get_or ys at default) within is (get_or_default ys at default _ (omega arith)))
+
+-- and a loop over the sources that a caller leaves
+pub left_more : (caller : ℕ) (xs ys : List Source) (at : ℕ) → at < length xs → length ys ≡ length xs → ys ≡ map (after_leave caller) (take at xs) ++ drop at xs →
+    slice_set ys at (after_leave caller (get_or ys at no_source)) ≡ map (after_leave caller) (take (at + 1) xs) ++ drop (at + 1) xs
+left_more caller xs ys at within long is = changed_more (after_leave caller) xs ys at no_source _ within long is refl
 
 -- a list whose items were all written
 pub all_written : {X : Type 0} (xs ys : List X) (n : ℕ) → length ys ≡ n → take n (ys ++ drop (length ys) xs) ≡ ys

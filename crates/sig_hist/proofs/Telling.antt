@@ -136,7 +136,7 @@ legal_drop content cap entries zero legal = legal
 legal_drop content cap [] (suc at) legal = tt
 legal_drop content cap (entry ∷ entries) (suc at) legal = legal_drop (edited content cap entry.edit) cap entries at legal.1
 
-state_split : (content : Content) (cap : ℕ) (entries : List Entry) (at : ℕ) → state (state content cap (take at entries)) cap (drop at entries) ≡ state content cap entries
+pub state_split : (content : Content) (cap : ℕ) (entries : List Entry) (at : ℕ) → state (state content cap (take at entries)) cap (drop at entries) ≡ state content cap entries
 state_split content cap entries zero = refl
 state_split content cap [] (suc at) = refl
 state_split content cap (entry ∷ entries) (suc at) = state_split (edited content cap entry.edit) cap entries at

@@ -1,10 +1,12 @@
 -- The port of one thread, by its sources and its leaves.
-use Rattle.std.specs.Prelude.{ℕ, ◌<◌, pos, ◌==◌, List, [], length, get_or, slice_set, nat_lt, if◌then◌else◌, All}
+use Rattle.std.specs.Prelude.{◌≡◌, ℕ, ◌<◌, pos, ◌==◌, true, false, List, [], length, get_or, slice_set, nat_lt, if◌then◌else◌, All}
 use Rattle.sig_diff.specs.declared.contents.Content.TheVariants.{Cell}
-use Rattle.sig_hist.specs.Histories.{is_closed}
+use Rattle.sig_hist.specs.Histories.{has_left, is_closed}
 use Rattle.sig_hist.specs.Ports.{PortState, checked, settled, raised}
-use Rattle.sig_hist.specs.Sources.{Source, IsSource, entered, writers_of}
+use Rattle.sig_hist.specs.Sources.{Source, IsSource, entered, is_among, writers_of}
+use Rattle.sig_hist.specs.declared.edits.Edit.TheVariants.{Leave}
 use Rattle.sig_hist.specs.declared.edits.Entry.{Entry}
+use Rattle.sig_hist.specs.declared.edits.Reply.TheVariants.{Fine}
 use Rattle.sig_hist.specs.declared.plain.PlainLeaf.{PlainLeaf}
 use Rattle.sig_hist.specs.declared.plans.SourcePlan.{SourcePlan}
 use Rattle.sig_hist.specs.declared.ports.Condition.TheVariants.{Idle, Armed}
@@ -65,6 +67,15 @@ pub record IsOneThread (port : OneThread) : Type 0 where
 -- one source has one more entry
 abbrev pub with_entry : OneThread → ℕ → Entry → OneThread
 with_entry port source entry = record port { sources = slice_set port.sources source (entered (source_at port source) entry) }
+
+-- a caller leaves a source, if it is a writer of it
+abbrev pub after_leave : ℕ → Source → Source
+after_leave caller source = if is_among caller (writers_of source.plan.allow) then entered source (record { caller = caller; edit = Leave; reply = Fine }) else source
+
+-- the caller hasn't left a source that it is a writer of
+abbrev pub StaysWhereItWrites : OneThread → ℕ → Type 0
+StaysWhereItWrites port caller =
+    (source : ℕ) → is_among caller (writers_of (source_at port source).plan.allow) ≡ true → has_left caller (source_at port source).history ≡ false
 
 abbrev pub leaf_checked : ℕ → Version → PlainLeaf → PlainLeaf
 leaf_checked source version leaf = record leaf { condition = if leaf.source == source then checked version leaf.condition else leaf.condition }

@@ -1,10 +1,10 @@
-ghost use Rattle.std.specs.Prelude.{◌≡◌, ◌<◌, ◌≤◌, false, length, map, All, IfSome, IfOk, IfErr, OnErr};
+ghost use Rattle.std.specs.Prelude.{◌≡◌, ◌<◌, ◌≤◌, true, false, length, map, slice_set, All, IfSome, IfOk, IfErr, OnErr};
 ghost use Rattle.sig_hist.specs.Changes.{reply_to};
 ghost use Rattle.sig_hist.specs.Entering.{entering_from};
-ghost use Rattle.sig_hist.specs.Histories.{is_leave};
-ghost use Rattle.sig_hist.specs.Sources.{IsPlan, IsIn, IsRefusal, content_of};
+ghost use Rattle.sig_hist.specs.Histories.{has_left, is_leave};
+ghost use Rattle.sig_hist.specs.Sources.{IsPlan, IsIn, IsRefusal, content_of, is_among, writers_of};
 ghost use Rattle.sig_hist.specs.Ports.{IsSoundPort};
-ghost use Rattle.sig_hist.specs.OneThread.{source_of, leaf_of, source_at, leaf_at, version_of, with_entry, leaf_checked, leaf_settled, leaf_armed, known};
+ghost use Rattle.sig_hist.specs.OneThread.{source_of, leaf_of, source_at, leaf_at, version_of, with_entry, after_leave, StaysWhereItWrites, leaf_checked, leaf_settled, leaf_armed, known};
 
 use crate::edits::{Edit, Reply};
 use crate::plans::{EditError, Plans};
@@ -83,6 +83,35 @@ impl Plain {
     {
         let source = &mut self.sources[source];
         source.leave(caller);
+    }
+
+    /// Takes a caller out of each source that it is a writer of. It takes no memory.
+    pub fn leave_all(&mut self, caller: u32)
+        requires { StaysWhereItWrites self.old caller }
+        ensures { self.new ≡ record self.old { sources = map (after_leave caller) self.old.sources } }
+    {
+        'sources: for source in 0..self.sources.len() {
+            self.leave_if_writer(source, caller);
+        }
+    }
+
+    /// Takes a caller out of a source, if it is a writer of it.
+    fn leave_if_writer(&mut self, source: usize, caller: u32)
+        requires source { source < length self.old.sources }
+        requires stays { is_among caller (writers_of (source_at self.old source).plan.allow) ≡ true → has_left caller (source_at self.old source).history ≡ false }
+        ensures { self.new ≡ record self.old { sources = slice_set self.old.sources source (after_leave caller (source_at self.old source)) } }
+    {
+        if self.source(source).has_writer(caller) {
+            self.leave(source, caller);
+        }
+    }
+
+    /// The states of the sources. It takes no memory.
+    pub fn into_sources(self) -> Vec<SourceState>
+        ensures { result.items ≡ self.sources }
+    {
+        let Plain { sources, .. } = self;
+        sources
     }
 
     /// The state of a source.

@@ -1,17 +1,17 @@
-ghost use Rattle.std.specs.Prelude.{◌≡◌, ◌<◌, ◌≤◌, [], length, slice_get, false, IfSome, IfOk, OnOk, IfErr, OnErr};
+ghost use Rattle.std.specs.Prelude.{◌≡◌, ◌<◌, ◌≤◌, ◌^◌, [], length, slice_get, false, IfSome, IfOk, OnOk, IfErr, OnErr};
 ghost use Rattle.sig_hist.specs.Changes.{reply_to};
 ghost use Rattle.sig_hist.specs.Counting.{MayEdit};
 ghost use Rattle.sig_hist.specs.Entering.{entering_from};
 ghost use Rattle.sig_hist.specs.Histories.{is_leave, is_closed};
-ghost use Rattle.sig_hist.specs.Sources.{IsPlan, IsSource, IsIn, IsRefusal, content_of, entered, writers_of};
+ghost use Rattle.sig_hist.specs.Sources.{IsPlan, IsSource, IsIn, IsRefusal, content_of, entered, is_among, writers_of};
 
 use crate::changes::execute;
-use crate::edits::{Edit, Entry, Reply};
+use crate::edits::{Edit, Entry, History, Reply};
 use crate::entering::{entering, whole};
 use crate::plans::{EditError, SourcePlan};
 use crate::ports::Entering;
-use crate::writers::{Writer, have_left, place_of, room_of, writers_of};
-use sig_diff::{Content, NoMemory, TryCopy};
+use crate::writers::{Writer, has_number, have_left, place_of, room_of, writers_of};
+use sig_diff::{Content, Items, NoMemory, TryCopy};
 use std::alloc::Global;
 use std::marker::Model;
 use std::snapshot::Snapshot;
@@ -113,6 +113,27 @@ impl SourceState {
             edit: Edit::Leave,
             reply: Reply::Fine,
         });
+    }
+
+    /// Whether a caller is one of the writers, or was one before it left.
+    pub fn has_writer(&self, caller: u32) -> bool
+        ensures { result ≡ is_among caller (writers_of self.now.plan.allow) }
+    {
+        has_number(self.writers.as_slice(), caller)
+    }
+
+    /// The content after all entries, and the history. It takes no memory.
+    pub fn into_parts(self) -> (Content, History)
+        ensures content { result.0 ≡ content_of self }
+        ensures history { result.1 ≡ self.history }
+        ensures few { length self.history < 2 ^ 32 }
+    {
+        let SourceState {
+            content,
+            history,
+            ..
+        } = self;
+        (content, Items::from_vec(history))
     }
 
     /// The entry at a place of the history, from 0 on.

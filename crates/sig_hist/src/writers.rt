@@ -1,5 +1,5 @@
 ghost use Rattle.std.specs.Prelude.{◌≡◌, ◌==◌, ◌<◌, ◌^◌, true, map, IfOk};
-ghost use Rattle.std.specs.List.{list_all};
+ghost use Rattle.std.specs.List.{list_all, list_any};
 ghost use Rattle.sig_hist.specs.Sources.{is_among, room_of, writers_of};
 ghost use Rattle.sig_hist.specs.Counting.{allowances_of, starting, IsPlace};
 
@@ -40,6 +40,15 @@ pub fn writers_of(alloc: Global, allow: &[Allowance]) -> Result<Vec<Writer>, NoM
         })?;
     }
     Ok(writers)
+}
+
+/// Whether one of the writers has this number.
+pub fn has_number(writers: &[Writer], number: u32) -> bool
+    ensures { result ≡ list_any (λ writer. writer.allowance.writer == number) writers.now }
+{
+    writers
+        .iter()
+        .any(|writer| writer.allowance.writer == number)
 }
 
 /// The place of the writer with a number.

@@ -1,4 +1,4 @@
-ghost use Rattle.std.specs.Prelude.{◌≡◌, ◌++◌, ◌<◌, ◌≤◌, [], length, remove, OnOk};
+ghost use Rattle.std.specs.Prelude.{◌≡◌, ◌++◌, ◌<◌, ◌≤◌, [], length, filter, remove, IfOk, OnOk};
 ghost use Rattle.sig_diff.specs.Differences.{IsLawful};
 ghost use Rattle.sig_diff.specs.Passing.{passes_at, passing_before};
 ghost use Rattle.sig_ops.specs.Tables.{if_so, filter_gives};
@@ -33,6 +33,16 @@ impl<T, P> FilterOp<T, P> {
             tester,
             items: Items::new(alloc),
         }
+    }
+}
+
+impl<T: Copy, P: Tester<T>> FilterOp<T, P> {
+    /// The items that pass.
+    pub fn passing(&self) -> Result<Items<T>, NoMemory>
+        requires { P.can_call self.now.tester }
+        ensures { IfOk result (λ kept. kept ≡ filter (P.passes self.now.tester) self.now.items) }
+    {
+        passing(self.items.alloc(), &self.tester, self.items.as_slice())
     }
 }
 
