@@ -101,7 +101,7 @@ some_if true edit edits some = omega arith
 some_if false edit edits some = some
 
 -- an edit on a source is among those on it
-some_on : (number : ℕ) (edits : List (ℕ × Edit)) (i : ℕ) (edit : ℕ × Edit) → slice_get edits i ≡ Some edit → (edit.0 == number) ≡ true → 0 < length (edits_on number edits)
+pub some_on : (number : ℕ) (edits : List (ℕ × Edit)) (i : ℕ) (edit : ℕ × Edit) → slice_get edits i ≡ Some edit → (edit.0 == number) ≡ true → 0 < length (edits_on number edits)
 some_on number [] i edit is here = cc
 some_on number (first ∷ edits) zero edit is here = let same : first ≡ edit = cc in rw (same, here) (omega arith)
 some_on number (first ∷ edits) (suc i) edit is here = some_if (first.0 == number) first.1 (edits_on number edits) (some_on number edits i edit is here)

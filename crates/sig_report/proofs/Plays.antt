@@ -67,7 +67,7 @@ all_among p (x ∷ xs) holds =
 none_had : (script : Script) (writer : ℕ) → get_or (opened script).done writer 0 ≡ 0
 none_had script writer = map_at (λ (writer : WriterDef). 0) script.writers writer no_writer
 
-opened_play : (script : Script) → script.shares ≡ [] → IsPlay script (opened script)
+pub opened_play : (script : Script) → script.shares ≡ [] → IsPlay script (opened script)
 opened_play script unshared = record {
   sources = length-map (plans_of script) _ ∙ length_plans_of script unshared;
   done = length-map script.writers _;
@@ -96,10 +96,10 @@ module _ (script : Script) (all_built : unbuilt script ≡ None) (no_leaves : ha
   -- ---- the end
 
   -- the moment after the writers, whose sources are the last ones
-  abbrev written_out : Played
+  abbrev pub written_out : Played
   written_out = written_from script 0 script.writers (scheduled script script.schedule (opened script))
 
-  played_is : played script ≡ ended_from script 0 script.views written_out
+  pub played_is : played script ≡ ended_from script 0 script.views written_out
   played_is = ap (λ (shares : List ShareDef). ended_from script (length shares) script.views (in_turn (λ number (share : ShareDef). times 2 (by_share script number)) 0 shares written_out)) (no_shares script all_built)
 
   scheduled_play : IsPlay script (scheduled script script.schedule (opened script))

@@ -31,14 +31,16 @@ reported_sources [] (source ∷ sources) same = absurd (omega (arith, same))
 reported_sources (name ∷ names) [] same = absurd (omega (arith, same))
 reported_sources (name ∷ names) (source ∷ sources) same = ap (λ (others : List Source). source ∷ others) (reported_sources names sources (omega (arith, same)))
 
+pub plans_kept : (plans : List SourcePlan) (sources : List Source) → length plans ≡ length sources → ((number : ℕ) → (get_or sources number no_source).plan ≡ get_or plans number no_source.plan) →
+    plans ≡ map (λ (source : Source). source.plan) sources
+plans_kept plans sources planned each =
+    ext_get_or no_source.plan plans (map (λ (source : Source). source.plan) sources) (planned ∙ sym (length-map sources (λ (source : Source). source.plan)))
+    (λ number within. sym (map_at (λ (source : Source). source.plan) sources number no_source ∙ each number))
+
 -- the sources in the report are those of the play
 pub sources_are : (plans : List SourcePlan) (names : List (List ℕ)) (sources : List Source) → length names ≡ length sources → length plans ≡ length sources →
     ((number : ℕ) → (get_or sources number no_source).plan ≡ get_or plans number no_source.plan) → sources_in plans (source_reports names sources) ≡ sources
-sources_are plans names sources same planned each =
-    let planned_so : plans ≡ map (λ (source : Source). source.plan) sources =
-    ext_get_or no_source.plan plans (map (λ (source : Source). source.plan) sources) (planned ∙ sym (length-map sources (λ (source : Source). source.plan)))
-    (λ number within. sym (map_at (λ (source : Source). source.plan) sources number no_source ∙ each number)) in
-    rw planned_so (reported_sources names sources same)
+sources_are plans names sources same planned each = rw (plans_kept plans sources planned each) (reported_sources names sources same)
 
 pub each_source : (P : ℕ → Source → SourceReport → Type 0) (number : ℕ) (names : List (List ℕ)) (sources : List Source) → length names ≡ length sources →
     ((place : ℕ) (name : List ℕ) → place < length sources → P (number + place) (get_or sources place no_source) (source_report name (get_or sources place no_source))) → EachPair P number sources (source_reports names sources)

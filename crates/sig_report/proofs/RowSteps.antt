@@ -26,7 +26,7 @@ last_at_append : (at : List ℕ) (rows : List Row) (row : Row) → last_at at (r
 last_at_append at [] row = refl
 last_at_append at (first ∷ rows) row = last_at_append first.at rows row
 
-replay_of_append : (shown : Shown) (rows : List Row) (row : Row) → replay_of shown (rows ++ row ∷ []) ≡ shown_after (replay_of shown rows) row.body
+pub replay_of_append : (shown : Shown) (rows : List Row) (row : Row) → replay_of shown (rows ++ row ∷ []) ≡ shown_after (replay_of shown rows) row.body
 replay_of_append shown [] row = refl
 replay_of_append shown (first ∷ rows) row = replay_of_append (shown_after shown first.body) rows row
 

@@ -77,7 +77,7 @@ other_kind content kind is other = refl
 nothing_leads : (content : Content) (kind : Kind) → kind_of content ≡ kind → kind ≢ Kind.Vector → Leads [] [] (list_in content)
 nothing_leads content kind is other = record { lawful = tt; replay = sym (other_kind content kind is other) }
 
-entering_leads : (content : Content) (cap : ℕ) (entries : List Entry) → Leads (list_in content) (list_entering content cap entries) (list_in (state content cap entries))
+pub entering_leads : (content : Content) (cap : ℕ) (entries : List Entry) → Leads (list_in content) (list_entering content cap entries) (list_in (state content cap entries))
 entering_leads (Cell x) cap entries = nothing_leads _ Kind.Cell (kind_state (Cell x) cap entries) (λ same. cc)
 entering_leads (Vector items) cap entries = far_leads items cap entries (is_far entries)
 entering_leads (Map items) cap entries = nothing_leads _ Kind.Map (kind_state (Map items) cap entries) (λ same. cc)
@@ -92,7 +92,7 @@ behind_is way ahead =
 -- ---- maps and filters
 
 module _ {T : Type 0} (test : T → Bool) where
-  filter_leads : (items : List T) (diffs : List (VecDiff T)) → AreLawful items diffs → Leads (filter test items) (through (filter_gives test) items diffs) (filter test (replayed items diffs))
+  pub filter_leads : (items : List T) (diffs : List (VecDiff T)) → AreLawful items diffs → Leads (filter test items) (through (filter_gives test) items diffs) (filter test (replayed items diffs))
   filter_leads items [] lawful = record { lawful = tt; replay = refl }
   filter_leads items (diff ∷ diffs) lawful =
       let turn = filter_turns test items diff lawful.0 in

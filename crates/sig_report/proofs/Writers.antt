@@ -62,7 +62,7 @@ ends_with_no_leave [] none = refl
 ends_with_no_leave (entry ∷ []) none = not-true _ (and_parts _ _ none).0
 ends_with_no_leave (entry ∷ next ∷ entries) none = ends_with_no_leave (next ∷ entries) (and_parts _ _ none).1
 
-no_leaves_at : (writers : List WriterDef) (writer : ℕ) → list_all leaves_nowhere writers ≡ true → leaves_nowhere (get_or writers writer no_writer) ≡ true
+pub no_leaves_at : (writers : List WriterDef) (writer : ℕ) → list_all leaves_nowhere writers ≡ true → leaves_nowhere (get_or writers writer no_writer) ≡ true
 no_leaves_at [] writer none = refl
 no_leaves_at (first ∷ writers) zero none = (and_parts _ _ none).0
 no_leaves_at (first ∷ writers) (suc writer) none = no_leaves_at writers writer (and_parts _ _ none).1

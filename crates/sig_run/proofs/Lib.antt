@@ -1,9 +1,6 @@
 pub mod Codes
-pub mod States
-pub mod Steps
-pub mod Turns
-pub mod Whole
-pub mod RowSteps
-pub mod Fronts
-pub mod Seen
-pub mod Plays
+pub mod Lists
+pub mod Polling
+pub mod Writing
+pub mod Viewing
+pub mod Reported

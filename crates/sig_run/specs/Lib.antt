@@ -1,11 +1,4 @@
-pub mod Edits
-pub mod Histories
-pub mod Flow
-pub mod Script
-pub mod Playing
 pub mod Watching
+pub mod Reporting
 pub mod Stages
-pub mod Text
 pub mod Program
-pub mod Rows
-pub mod Lawful

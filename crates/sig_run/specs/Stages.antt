@@ -1,27 +1,65 @@
 -- How the code's states stand for a play at one moment.
-use Rattle.std.specs.Prelude.{◌≡◌, ℕ, ◌+◌, ◌||◌, ◌==◌, ◌≤◌, length, take, Bool, nat_lt}
-use Rattle.sig_script.specs.declared.script.FirstScript.{FirstScript}
-use Rattle.sig_run.specs.declared.playing.Stage.{Stage}
-use Rattle.sig_run.specs.Histories.{IsLegal, is_closed}
-use Rattle.sig_run.specs.Script.{edits_in, writers_of, cap_of}
-use Rattle.sig_run.specs.Playing.{Played, content_after}
-use Rattle.sig_run.specs.Watching.{watched_of}
+use Rattle.std.specs.Prelude.{◌≡◌, ℕ, ◌<◌, List, [], ◌∷◌, length, map, get_or, slice_get, true, false, None, Some}
+use Rattle.sig_expr.specs.Shapes.{view_tree}
+use Rattle.sig_expr.specs.declared.expressions.View.{View}
+use Rattle.sig_hist.specs.Histories.{is_leave}
+use Rattle.sig_hist.specs.OneThread.{OneThread, StaysWhereItWrites, no_source, source_at}
+use Rattle.sig_hist.specs.Sources.{IsIn, Source}
+use Rattle.sig_hist.specs.declared.edits.Edit.{Edit}
+use Rattle.sig_report.proofs.Events.{IsPlay}
+use Rattle.sig_report.specs.Lawful.{all_views}
+use Rattle.sig_report.specs.Playing.{Played, source_names, source_reports, view_names, view_reports}
+use Rattle.sig_report.specs.declared.report.Report.{Report}
+use Rattle.sig_run.specs.Watching.{IsFollowing, tree_of, watched_of}
+use Rattle.sig_run.specs.declared.stage.Stage.{Stage}
+use Rattle.sig_run.specs.declared.watching.WatchedView.{WatchedView}
+use Rattle.sig_script.specs.Built.{unbuilt}
+use Rattle.sig_script.specs.Leaving.{has_no_leaves}
+use Rattle.sig_script.specs.SelfContained.{IsSelfContained}
+use Rattle.sig_script.specs.declared.types.Script.{Script}
 
 abbrev pub played_of : Stage → Played
-played_of stage = record { history = stage.source.history; view = watched_of stage.view }
+played_of stage = record { done = stage.done.items; sources = stage.port.sources; views = map watched_of stage.views.items }
 
--- whether the writer of so many edits has left after so many entries, or does nothing at all
-abbrev pub is_done : ℕ → ℕ → Bool
-is_done edits entries = (edits == 0) || nat_lt edits entries
+-- scripts that are played
+pub record IsPlayable (script : Script) : Type 0 where
+  pub built : unbuilt script ≡ None
+  pub no_leaves : has_no_leaves script ≡ true
+  pub self_contained : IsSelfContained script
 
--- the vector and the view have the contents of the script's vector, after all entries and after those followed
-pub record IsInStep (script : FirstScript) (stage : Stage) : Type 0 where
-  pub few : length (edits_in script) ≤ 63
-  pub cap : stage.source.cap ≡ cap_of script.start (edits_in script)
-  pub room : stage.source.room ≡ length (edits_in script) + 1
-  pub least : stage.view.filter.tester.least ≡ script.least
-  pub content : stage.source.content ≡ content_after script stage.source.history
-  pub legal : IsLegal script.start (cap_of script.start (edits_in script)) stage.source.history
-  pub not_ahead : stage.view.position ≤ length stage.source.history
-  pub followed : stage.view.filter.items ≡ content_after script (take stage.view.position stage.source.history)
-  pub closed : is_closed (writers_of (edits_in script)) stage.source.history ≡ is_done (length (edits_in script)) (length stage.source.history)
+-- a view of the code is this one of a script, and follows its source
+pub record IsViewOf (sources : List Source) (shown : View) (view : WatchedView) : Type 0 where
+  pub tree : tree_of view ≡ view_tree shown
+  pub source : view.source < length sources
+  pub following : IsFollowing (get_or sources view.source no_source) view
+
+abbrev pub AreViewsOf : List Source → List View → List WatchedView → Type 0
+AreViewsOf sources [] [] = Unit {0}
+AreViewsOf sources (shown ∷ others) (view ∷ views) = IsViewOf sources shown view × AreViewsOf sources others views
+AreViewsOf sources _ _ = ⊥
+
+pub record IsInStep (script : Script) (stage : Stage) : Type 0 where
+  pub playable : IsPlayable script
+  pub play : IsPlay script (played_of stage)
+  pub views : AreViewsOf stage.port.sources (all_views script) stage.views.items
+
+-- ---- a writer's event
+
+-- what a writer's next edit asks of the sources
+pub record IsOpenTo (port : OneThread) (caller : ℕ) (edit : ℕ × Edit) : Type 0 where
+  pub source : edit.0 < length port.sources
+  pub is_in : IsIn (source_at port edit.0) caller
+  pub no_leave : is_leave edit.1 ≡ false
+
+-- what its event after so many asks: that of its edit, or after the last one that it stays in all its sources
+pub record AreOpenTo (port : OneThread) (caller : ℕ) (edits : List (ℕ × Edit)) (done : ℕ) : Type 0 where
+  pub edit : (edit : ℕ × Edit) → slice_get edits done ≡ Some edit → IsOpenTo port caller edit
+  pub leaves : done ≡ length edits → StaysWhereItWrites port caller
+
+-- ---- the report
+
+abbrev pub reported : Script → Played → Report
+reported script p = record {
+  sources = source_reports (source_names script) p.sources;
+  views = view_reports (view_names script) (all_views script) p.views;
+}

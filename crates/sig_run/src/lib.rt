@@ -4,12 +4,11 @@
 mod gate;
 mod playing;
 mod program;
-mod report;
-mod sources;
+mod reporting;
+mod stage;
 #[cfg(test)]
 mod tests;
-mod text;
-mod views;
+mod watching;
 mod words;
 
 pub use gate::{Gate, Open};

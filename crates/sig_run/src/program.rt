@@ -1,17 +1,19 @@
-ghost use Rattle.std.specs.Prelude.{◌≡◌, ◌≢◌, ◌⊎◌, ◌≤◌, ◌∷◌, [], codes, IfOk};
+ghost use Rattle.std.specs.Prelude.{◌≡◌, ◌≢◌, ◌⊎◌, ◌≤◌, ◌∷◌, [], true, codes, IfOk, None, Some};
 ghost use Rattle.std.specs.Io.KnownBytes.{Appends, Keeps};
 ghost use Rattle.sig_io.specs.Causes.{Rose};
 ghost use Rattle.sig_io.specs.Transfer.{Takes, AppendsPrefix};
-ghost use Rattle.sig_script.specs.Script.{KeepsLimits};
-ghost use Rattle.sig_run.specs.Program.{refusal_line, IsReportOf, IsReport, IsRefusal, IsAnswer, Answers, IsSilent, Answered};
+ghost use Rattle.sig_script.specs.Built.{unbuilt};
+ghost use Rattle.sig_script.specs.Leaving.{has_no_leaves};
+ghost use Rattle.sig_script.specs.SelfContained.{IsSelfContained};
+ghost use Rattle.sig_run.specs.Program.{line_of, refusal_line, IsReportOf, IsReport, IsRefusal, IsAnswer, Answers, IsSilent, Answered};
 
 use crate::gate::Gate;
 use crate::playing::play;
-use crate::text::report_text;
 use crate::words::Words;
 use sig_diff::NoMemory;
 use sig_io::{ReadError, Sink, Source, read_all, write_all};
-use sig_script::{FirstScript, ScriptError, first_script};
+use sig_report::{play_is_lawful, report_text};
+use sig_script::{Script, ScriptError, read_script};
 use std::alloc::{AllocError, Global};
 use std::sync::Wait;
 use std::thread::Threads;
@@ -147,28 +149,44 @@ fn write_or<K: Sink>(output: &mut K, text: &[u8], status: Status) -> Status
 fn answer_to(alloc: Global, bytes: &[u8]) -> Result<Answer, NoMemory>
     ensures { IfOk result (Answers bytes.now) }
 {
-    match first_script(alloc, bytes) {
+    match read_script(alloc, bytes) {
         Ok(script) => Ok(Answer::Report(played(alloc, &script)?)),
-        Err(ScriptError::NotJson) => Ok(Answer::Refusal(refusal_line(alloc, 1, &[])?)),
-        Err(ScriptError::NotBuilt { path }) => {
-            Ok(Answer::Refusal(refusal_line(alloc, 8, path.as_slice())?))
-        }
-        // The other refusals are of whole scripts, which aren't read here.
-        Err(_) => Err(AllocError),
+        Err(refusal) => Ok(Answer::Refusal(line_of(alloc, &refusal)?)),
     }
 }
 
 /// The text of the report of a script's play.
-#[tactic(auto, using(crate::proofs::Plays::reports_of_play))]
-fn played(alloc: Global, script: &FirstScript) -> Result<Vec<u8>, NoMemory>
-    requires { KeepsLimits script.now }
+#[tactic(auto, using(crate::proofs::Reported::reports_of_play))]
+fn played(alloc: Global, script: &Script) -> Result<Vec<u8>, NoMemory>
+    requires built { unbuilt script.now ≡ None }
+    requires no_leaves { has_no_leaves script.now ≡ true }
+    requires self_contained { IsSelfContained script.now }
     ensures { IfOk result (λ text. IsReportOf script.now text.items) }
 {
     let report = play(alloc, script)?;
+    play_is_lawful(script);
     report_text(alloc, script, &report)
 }
 
-/// The line of a refusal: its number, and its path where it has one.
+/// The line of a refusal. Want of memory has none.
+fn line_of(alloc: Global, refusal: &ScriptError) -> Result<Vec<u8>, NoMemory>
+    ensures { IfOk result (λ line. line_of refusal.now ≡ Some line.items) }
+{
+    match refusal {
+        ScriptError::NotJson => refusal_line(alloc, 1, &[]),
+        ScriptError::Shape { path } => refusal_line(alloc, 2, path.as_slice()),
+        ScriptError::Name { path } => refusal_line(alloc, 3, path.as_slice()),
+        ScriptError::Limit { path } => refusal_line(alloc, 4, path.as_slice()),
+        ScriptError::TooBig { path } => refusal_line(alloc, 5, path.as_slice()),
+        ScriptError::Schedule { place } => {
+            refusal_line(alloc, 6, itoa::Buffer::new().format(*place).as_bytes())
+        }
+        ScriptError::NotBuilt { path } => refusal_line(alloc, 8, path.as_slice()),
+        ScriptError::NoMemory => Err(AllocError),
+    }
+}
+
+/// The line of a refusal: its number, and its path or place where it has one.
 fn refusal_line(alloc: Global, number: u8, path: &[u8]) -> Result<Vec<u8>, NoMemory>
     ensures { IfOk result (λ line. line.items ≡ refusal_line number path.now) }
 {

@@ -1,5 +1,0 @@
-use Rattle.std.proofs.Common.{append_assoc}
-use Rattle.sig_run.proofs.text.ReplyPrinted.print.Goals as goal
-
-pub returns-in-OutOfRange : goal.returns-in-OutOfRange
-returns-in-OutOfRange c = rw (c.in-OutOfRange.is, ← append_assoc) c.print_one-in-OutOfRange.ensures
