@@ -1,5 +1,6 @@
 -- The numbers of a script that a document says are those of its own sources, shares, writers and views.
 use Rattle.std.proofs.Common.{◌≡◌, ℕ, ◌+◌, ◌<◌, List, [], ◌∷◌, length, Bool, true, false, ◌&&◌, nat_lt, nat_le, nat_eq, if◌then◌else◌, Option, None, Some, codes, refl, arith}
+use Rattle.std.proofs.lemmas.Bool.{and_parts}
 use Rattle.std.proofs.lemmas.Bool.Decides.{nat_tests}
 use Rattle.std.proofs.lemmas.List.Folds.{list_all-append}
 use Rattle.std.specs.Cmp.Lexicographic.{pointwise}
@@ -23,13 +24,9 @@ use Rattle.sig_script.specs.declared.types.Script.{Script}
 
 -- ---- limits that are kept
 
-no_first : (first second : Option (List ℕ)) → option_or first second ≡ None → first ≡ None
-no_first None second none = refl
-no_first (Some path) second none = none
-
-no_second : (first second : Option (List ℕ)) → option_or first second ≡ None → second ≡ None
-no_second None second none = none
-no_second (Some path) second none = absurd (cc)
+no_either : (first second : Option (List ℕ)) → option_or first second ≡ None → (first ≡ None) × (second ≡ None)
+no_either None second none = (refl, none)
+no_either (Some path) second none = absurd (cc)
 
 none_below : (step : List ℕ) (fault : Option (List ℕ)) → below step fault ≡ None → fault ≡ None
 none_below step None none = refl
@@ -39,16 +36,8 @@ passed : (test : Bool) → here_unless test ≡ None → test ≡ true
 passed true none = refl
 passed false none = absurd (cc)
 
-left : (a b : Bool) → (a && b) ≡ true → a ≡ true
-left true b holds = refl
-left false b holds = holds
-
-right : (a b : Bool) → (a && b) ≡ true → b ≡ true
-right true b holds = holds
-right false b holds = absurd (cc)
-
 has_least : (name : List ℕ) (least most : ℕ) (fault : Data → Option (List ℕ)) (members : Members) → list_limits name least most fault members ≡ None → nat_le least (item_count (list_at name members)) ≡ true
-has_least name least most fault members none = left _ _ (passed (is_within least most (list_at name members)) (no_first _ _ (none_below name _ none)))
+has_least name least most fault members none = (and_parts _ _ (passed (is_within least most (list_at name members)) (no_either _ _ (none_below name _ none)).0)).0
 
 -- ---- meanings
 
@@ -66,7 +55,7 @@ module _ (fits : Meaning → Bool) where
 
   meaning_fits : (names : List (List ℕ × Meaning)) (name : List ℕ) → fit names ≡ true → option_map_or fits (meaning names name) true ≡ true
   meaning_fits [] name all = refl
-  meaning_fits (named ∷ names) name all = chosen (pointwise nat_eq named.0 name) named.1 (meaning names name) (left _ _ all) (meaning_fits names name (right _ _ all))
+  meaning_fits (named ∷ names) name all = chosen (pointwise nat_eq named.0 name) named.1 (meaning names name) (and_parts _ _ all).0 (meaning_fits names name (and_parts _ _ all).1)
 
 module _ (sources shares writers views : ℕ) where
   abbrev counts : Meaning → Bool
@@ -120,15 +109,14 @@ module _ (members : Members) where
   counted name = meaning_fits is_counted (all_names members) name all_counted
 
   some_sources : limits_fault members ≡ None → nat_le 1 (count_of (codes "sources")) ≡ true
-  some_sources none = has_least (codes "sources") 1 16 source_limits members (no_first (list_limits (codes "sources") 1 16 source_limits members) _ none)
+  some_sources none = has_least (codes "sources") 1 16 source_limits members (no_either (list_limits (codes "sources") 1 16 source_limits members) _ none).0
 
   some_views : limits_fault members ≡ None → nat_le 1 (count_of (codes "views")) ≡ true
   some_views none =
-      let sources = list_limits (codes "sources") 1 16 source_limits members in
-      let shares = list_limits (codes "shares") 0 8 share_limits members in
-      let writers = list_limits (codes "writers") 0 16 writer_limits members in
-      let views = list_limits (codes "views") 1 16 view_limits members in
-      has_least (codes "views") 1 16 view_limits members (no_first views _ (no_second writers _ (no_second shares _ (no_second sources _ none))))
+      let after_sources = (no_either (list_limits (codes "sources") 1 16 source_limits members) _ none).1 in
+      let after_shares = (no_either (list_limits (codes "shares") 0 8 share_limits members) _ after_sources).1 in
+      let after_writers = (no_either (list_limits (codes "writers") 0 16 writer_limits members) _ after_shares).1 in
+      has_least (codes "views") 1 16 view_limits members (no_either (list_limits (codes "views") 1 16 view_limits members) _ after_writers).0
 
 pub self_contained : (members : Members) → limits_fault members ≡ None → IsSelfContained (script_of members)
 self_contained members none =
