@@ -7,7 +7,7 @@ ghost use Rattle.sig_script.specs.Paths.{first_in, in_field};
 ghost use Rattle.sig_script.specs.Shapes.{content_fault, document_in, edit_in, entries_fault, entries_from, entry_fault, expression_shape, has_fields, key_of, name_fault, operation_fault, pair_fault, pair_in, present, rises, share_in, shape_fault, source_in, version_fault, view_in, writer_in, yes_fault};
 
 use crate::fields::{field, field_count, index_of, list_of, number_of};
-use crate::grammar::{Class, Operation, ViewKind};
+use crate::grammar::{Class, Operation};
 use crate::objects::{
     class_of_view, content_field, kind_name, operation_field, operation_name, view_field,
     view_kind_name,
