@@ -1,10 +1,9 @@
 -- A list and an object of the document beside the values and the fields that they stand for.
-use Rattle.std.proofs.Common.{◌≡◌, ◌≢◌, ℕ, List, [], ◌∷◌, suc, length, Option, None, Some, refl, ap, ◌∙◌, add-one}
+use Rattle.std.proofs.Common.{◌≡◌, ◌≢◌, ℕ, List, [], ◌∷◌, suc, length, Option, Some, refl, ap, ◌∙◌, add-one}
 use Rattle.serde_json.specs.Data.{Data}
 use Rattle.serde_json.proofs.Views.{Entry}
 use Rattle.serde_json.specs.View.{items_view, members_view}
 use Rattle.serde_json.specs.declared.value.Value.{Value}
-use Rattle.sig_script.specs.Document.{only_item, item_at_most}
 use Rattle.sig_script.specs.Fields.{item_count, field_count}
 use Rattle.sig_script.specs.Shapes.{pair_in}
 
@@ -15,16 +14,6 @@ item_count_seen (value ∷ values) = add-one _ ∙ ap suc (item_count_seen value
 pub field_count_seen : (fields : List Entry) → field_count (members_view fields) ≡ length fields
 field_count_seen [] = refl
 field_count_seen (field ∷ fields) = add-one _ ∙ ap suc (field_count_seen fields)
-
-pub only_item_none : (values : List Value) → length values ≢ 1 → only_item (items_view values) ≡ None
-only_item_none [] other = refl
-only_item_none (value ∷ []) other = absurd (other refl)
-only_item_none (value ∷ another ∷ values) other = refl
-
-pub item_at_most_none : (values : List Value) → length values ≢ 0 → length values ≢ 1 → item_at_most (items_view values) ≡ None
-item_at_most_none [] some other = absurd (some refl)
-item_at_most_none (value ∷ []) some other = absurd (other refl)
-item_at_most_none (value ∷ another ∷ values) some other = refl
 
 pub pair_in_none : (first second : Data → Option (List ℕ)) (values : List Value) → length values ≢ 2 → pair_in first second (items_view values) ≡ Some []
 pair_in_none first second [] other = refl

@@ -1,7 +1,6 @@
 -- How the values of a JSON document are read: numbers, names, lists, and objects with stated fields.
 use Rattle.std.specs.Prelude.{ℕ, ◌+◌, ◌^◌, ◌==◌, ◌&&◌, ◌||◌, ℤ, List, [], ◌∷◌, length, Bool, false, nat_lt, nat_le, if◌then◌else◌, Option, None, Some, option_map, option_and_then, unwrap_or}
 use Rattle.std.specs.List.{list_all}
-use Rattle.std.specs.Option.{option_zip}
 use Rattle.serde_json.specs.Data.{Data, null, Items, no_items, item, Members, no_members, member}
 use Rattle.serde_json.specs.Find.{get_member, as_number, as_i64, as_u64, as_str, as_array, as_object}
 
@@ -75,10 +74,3 @@ only_field_in name fields = if field_count fields == 1 then get_member name fiel
 
 abbrev pub only_field : List ℕ → Data → Option Data
 only_field name value = option_and_then (only_field_in name) (as_object value)
-
--- the values of the two fields of an object that has no others
-abbrev pub two_fields_in : List ℕ → List ℕ → Members → Option (Data × Data)
-two_fields_in first second fields = if field_count fields == 2 then option_zip (get_member first fields) (get_member second fields) else None
-
-abbrev pub two_fields : List ℕ → List ℕ → Data → Option (Data × Data)
-two_fields first second value = option_and_then (two_fields_in first second) (as_object value)

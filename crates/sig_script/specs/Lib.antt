@@ -1,7 +1,6 @@
 pub mod Answering
 pub mod Building
 pub mod Built
-pub mod Document
 pub mod Fields
 pub mod Finding
 pub mod Forms
@@ -18,7 +17,6 @@ pub mod Plans
 pub mod Reading
 pub mod Rooms
 pub mod Schedules
-pub mod Script
 pub mod SelfContained
 pub mod Shapes
 pub mod Sizes

@@ -1,5 +1,5 @@
 -- Scripts whose numbers of sources, shares, writers and views are those of ones that they have.
-use Rattle.std.specs.Prelude.{◌≡◌, ℕ, ◌+◌, List, length, nat_lt, Bool, true}
+use Rattle.std.specs.Prelude.{◌≡◌, ℕ, ◌+◌, length, nat_lt, Bool, true}
 use Rattle.std.specs.List.{list_all}
 use Rattle.sig_expr.specs.Leaves.{leaves}
 use Rattle.sig_expr.specs.Shapes.{view_tree}

@@ -4,7 +4,7 @@ ghost use Rattle.std.specs.Option.{option_map_or};
 ghost use Rattle.serde_json.specs.Data.{null};
 ghost use Rattle.serde_json.specs.View.{view, items_view, members_view};
 ghost use Rattle.serde_json.specs.Find.{as_array, get_member};
-ghost use Rattle.sig_script.specs.Fields.{number_of, index_of, is_name_byte, is_name, item_count, field_count, only_field, two_fields, text_in, items_in, members_in, value_at, list_at};
+ghost use Rattle.sig_script.specs.Fields.{number_of, index_of, is_name_byte, is_name, item_count, field_count, only_field, text_in, items_in, members_in, value_at, list_at};
 
 use serde_json::{Map, Value};
 
@@ -75,26 +75,6 @@ pub fn only_field<'v>(value: &'v Value, name: &str) -> Option<&'v Value>
         return None;
     }
     field(fields, name)
-}
-
-/// The values of the two fields of an object that has no others.
-pub fn two_fields<'v>(value: &'v Value, first: &str, second: &str) -> Option<(&'v Value, &'v Value)>
-    ensures { option_map (λ found. (view found.0.now, view found.1.now)) result
-        ≡ two_fields first.now second.now (view value.now) }
-{
-    let fields = value.as_object()?;
-    if field_count(fields) != 2 {
-        return None;
-    }
-    Some((field(fields, first)?, field(fields, second)?))
-}
-
-/// Whether a list has at most so many values.
-#[tactic(auto, using(crate::proofs::Counts::item_count_seen))]
-pub fn is_within(values: &[Value], most: usize) -> bool
-    ensures { result ≡ nat_le (item_count (items_view values.now)) most }
-{
-    values.len() <= most
 }
 
 /// The values of a list.

@@ -4,7 +4,6 @@
 mod building;
 mod built;
 mod checks;
-mod document;
 mod document_building;
 mod document_limits;
 mod document_names;
@@ -27,11 +26,8 @@ mod reader_tests;
 mod refusals;
 mod rooms;
 mod schedules;
-mod script;
 mod shapes;
 mod sizes;
-#[cfg(test)]
-mod tests;
 mod types;
 mod walks;
 
@@ -40,9 +36,6 @@ pub use objects::{kind_name, view_kind_name};
 pub use planning::plans;
 pub use reader::read_script;
 pub use refusals::ScriptError;
-pub use script::{
-    FirstEdit, FirstEdits, FirstEvent, FirstEvents, FirstScript, FirstWriter, first_script,
-};
 pub use types::{
     Edits, Event, Events, Script, ShareDef, ShareDefs, SourceDef, SourceDefs, ViewDef, ViewDefs,
     WriterDef, WriterDefs,
