@@ -1,9 +1,9 @@
 -- The writers of a source are those with edits on it.
 use Rattle.std.proofs.Common.{◌≡◌, inl, inr, ◌∙◌, ℕ, zero, suc, ◌+◌, ◌<◌, ◌≤◌, ◌==◌, List, [], ◌∷◌, ◌++◌, length, get_or, cond, Bool, true, false, not, refl, sym, ap, arith}
-use Rattle.std.proofs.lemmas.Bool.{cases_lt, eq-eqb, ne_eqb}
+use Rattle.std.proofs.lemmas.Bool.{cases_lt, eq-eqb, eqb-true, ne_eqb}
 use Rattle.std.proofs.lemmas.List.{append-nil, get_or_past}
 use Rattle.sig_hist.specs.OneThread.{no_source}
-use Rattle.sig_hist.specs.Sources.{is_among, writers_of}
+use Rattle.sig_hist.specs.Sources.{allowed, is_among, writers_of}
 use Rattle.sig_hist.specs.declared.plans.Allowance.{Allowance}
 use Rattle.sig_hist.specs.declared.plans.SourcePlan.{SourcePlan}
 use Rattle.sig_report.proofs.Writers.{plan_at}
@@ -43,6 +43,31 @@ module _ (source writer : ℕ) where
       another writer (record { writer = number; edits = length (edits_on source first.edits) }) (allowances source (number + 1) writers) (length (edits_on source first.edits) == 0) (ne_eqb number writer (λ same. omega arith))
       ∙ among_from (number + 1) place writers (omega arith)
 
+-- by whether the first writer has no edits: what another may make, and what the first one may
+allowed_another : (writer : ℕ) (first : Allowance) (rest : List Allowance) (none : Bool) → (first.writer == writer) ≡ false → allowed writer (cond none rest (first ∷ rest)) ≡ allowed writer rest
+allowed_another writer first rest true other = refl
+allowed_another writer first rest false other = rw other refl
+
+allowed_first : (writer : ℕ) (first : Allowance) (rest : List Allowance) (none : Bool) → (first.writer == writer) ≡ true → (first.edits == 0) ≡ none → allowed writer rest ≡ 0 → allowed writer (cond none rest (first ∷ rest)) ≡ first.edits
+allowed_first writer first rest true same empty once = once ∙ sym (eqb-true first.edits 0 empty)
+allowed_first writer first rest false same some once = rw same refl
+
+module _ (source writer : ℕ) where
+  none_allowed : (number : ℕ) (writers : List WriterDef) → writer < number → allowed writer (allowances source number writers) ≡ 0
+  none_allowed number [] low = refl
+  none_allowed number (first ∷ writers) low =
+      allowed_another writer (record { writer = number; edits = length (edits_on source first.edits) }) (allowances source (number + 1) writers) (length (edits_on source first.edits) == 0) (ne_eqb number writer (λ same. omega arith))
+      ∙ none_allowed (number + 1) writers (omega arith)
+
+  allowed_from : (number place : ℕ) (writers : List WriterDef) → writer ≡ number + place → allowed writer (allowances source number writers) ≡ length (edits_on source (get_or writers place no_writer).edits)
+  allowed_from number place [] is = refl
+  allowed_from number zero (first ∷ writers) is =
+      allowed_first writer (record { writer = number; edits = length (edits_on source first.edits) }) (allowances source (number + 1) writers) (length (edits_on source first.edits) == 0) (eq-eqb number writer (omega arith)) refl
+      (none_allowed (number + 1) writers (omega arith))
+  allowed_from number (suc place) (first ∷ writers) is =
+      allowed_another writer (record { writer = number; edits = length (edits_on source first.edits) }) (allowances source (number + 1) writers) (length (edits_on source first.edits) == 0) (ne_eqb number writer (λ same. omega arith))
+      ∙ allowed_from (number + 1) place writers (omega arith)
+
 length_plans : (writers : List WriterDef) (number : ℕ) (sources : List SourceDef) → length (source_plans writers number sources) ≡ length sources
 length_plans writers number [] = refl
 length_plans writers number (source ∷ sources) = ap suc (length_plans writers (number + 1) sources)
@@ -65,11 +90,18 @@ module _ (script : Script) (unshared : script.shares ≡ []) where
   pub length_plans_of : length (plans_of script) ≡ length script.sources
   length_plans_of = ap length plans_are ∙ length_plans script.writers 0 script.sources
 
+  allow_is : (number : ℕ) → number < length script.sources → (plan_at script number).allow ≡ allowances number 0 script.writers
+  allow_is number within =
+      ap (λ (plans : List SourcePlan). (get_or plans number no_source.plan).allow) plans_are
+      ∙ allow_at script.writers 0 number script.sources within
+      ∙ (let same : 0 + number ≡ number = omega arith in ap (λ (at : ℕ). allowances at 0 script.writers) same)
+
   pub among_at : (number writer : ℕ) → number < length script.sources → is_among writer (writers_of (plan_at script number).allow) ≡ not (length (edits_on number (edits_of script writer)) == 0)
-  among_at number writer within =
-      let allow : (plan_at script number).allow ≡ allowances number 0 script.writers =
-      ap (λ (plans : List SourcePlan). (get_or plans number no_source.plan).allow) plans_are ∙ allow_at script.writers 0 number script.sources within ∙ (let same : 0 + number ≡ number = omega arith in ap (λ (at : ℕ). allowances at 0 script.writers) same) in
-      rw allow (among_from number writer 0 writer script.writers (omega arith))
+  among_at number writer within = rw (allow_is number within) (among_from number writer 0 writer script.writers (omega arith))
+
+  -- a writer may make all its edits on the source
+  pub allowed_at : (number writer : ℕ) → number < length script.sources → allowed writer (plan_at script number).allow ≡ length (edits_on number (edits_of script writer))
+  allowed_at number writer within = rw (allow_is number within) (allowed_from number writer 0 writer script.writers (omega arith))
 
   nobody_past : (number writer : ℕ) → length script.sources ≤ number → is_among writer (writers_of (plan_at script number).allow) ≡ false
   nobody_past number writer past =

@@ -1,11 +1,10 @@
 -- What a poll does to a view that follows its source.
-use Rattle.std.proofs.Common.{◌≡◌, ◌≢◌, ◌∙◌, ℕ, ◌+◌, ◌<◌, ◌≤◌, ◌==◌, ℤ, List, [], ◌∷◌, ◌++◌, length, map, get_or, nat_eq, Bool, true, false, ◌&&◌, if◌then◌else◌, Option, None, Some, refl, sym, ap, arith}
+use Rattle.std.proofs.Common.{◌≡◌, ◌∙◌, ℕ, ◌<◌, ◌==◌, ℤ, List, [], ◌∷◌, ◌++◌, length, map, get_or, nat_eq, Bool, true, false, ◌&&◌, if◌then◌else◌, Option, None, Some, refl, sym, ap, arith}
 use Rattle.std.proofs.lemmas.Bool.{eqb-true, eq-eqb}
 use Rattle.std.proofs.lemmas.List.{length_push}
 use Rattle.std.specs.Cmp.Lexicographic.{pointwise}
 use Rattle.std.specs.Option.{option_to_list}
 use Rattle.sig_diff.specs.Contents.{list_in}
-use Rattle.sig_diff.specs.Replaying.{replayed}
 use Rattle.sig_diff.specs.declared.differences.VecDiff.{VecDiff}
 use Rattle.sig_expr.specs.Leaves.{number_vec, numbered}
 use Rattle.sig_expr.specs.Trees.{VecTree, ViewTree, vector_view}
@@ -17,9 +16,9 @@ use Rattle.sig_hist.specs.Sources.{Source, content_of, writers_of}
 use Rattle.sig_report.proofs.Polls.{awaits_leaf, chain_numbered, end_is, polled_is}
 use Rattle.sig_report.proofs.RowSteps.{replay_of_append}
 use Rattle.sig_report.proofs.Turning.{Leads}
-use Rattle.sig_report.specs.Playing.{Watched, is_at_end, polled, polled_later, with_row}
+use Rattle.sig_report.specs.Playing.{Watched, is_at_end, polled, with_row}
 use Rattle.sig_run.proofs.Lists.{at_end, diffs_lead, first_given, items_after, list_chain, next_given, only_leaf, shown_after_all, tree_after}
-use Rattle.sig_run.specs.Watching.{IsFollowing, ShowsItsRows, Stands, after_all, diffs_from, given_for, gone_on, is_at, items_of, list_tree, shown_of, sources_under, tree_of, watched_of, with_row_at}
+use Rattle.sig_run.specs.Watching.{IsFollowing, Stands, after_all, diffs_from, given_for, gone_on, is_at, items_of, list_tree, shown_of, sources_under, tree_of, watched_of, with_row_at}
 use Rattle.sig_run.specs.declared.watching.FollowedList.{FollowedList}
 use Rattle.sig_run.specs.declared.watching.WatchedView.{WatchedView}
 use Rattle.sig_view.specs.Flow.{flow, state_at}

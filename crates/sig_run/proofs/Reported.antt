@@ -1,30 +1,28 @@
 -- The reports of the code are those of the play.
-use Rattle.std.proofs.Common.{◌≡◌, ◌⊎◌, inl, inr, ◌∙◌, ℕ, ◌+◌, List, [], ◌∷◌, ◌++◌, length, map, true, All, None, refl, sym, ap, ap₂, subst, arith}
+use Rattle.std.proofs.Common.{◌≡◌, ◌⊎◌, inl, inr, ◌∙◌, ℕ, ◌+◌, List, [], ◌∷◌, ◌++◌, length, map, All, refl, sym, ap, ap₂, subst, arith}
 use Rattle.std.proofs.lemmas.List.{append-nil}
 use Rattle.std.proofs.lemmas.List.Elements.{All-cons}
 use Rattle.std.specs.List.{zip}
 use Rattle.sig_diff.specs.declared.contents.Content.{Content}
-use Rattle.sig_expr.specs.Shapes.{view_tree}
 use Rattle.sig_expr.specs.Trees.{ViewTree}
 use Rattle.sig_expr.specs.declared.expressions.View.{View}
 use Rattle.sig_hist.specs.Sources.{Source, content_of}
 use Rattle.sig_hist.specs.declared.plans.SourcePlan.{SourcePlan}
 use Rattle.sig_report.proofs.Allowing.{length_plans_of, plans_are}
 use Rattle.sig_report.proofs.Endings.{ended_from, written_from}
-use Rattle.sig_report.proofs.Events.{IsPlay}
 use Rattle.sig_report.proofs.Plays.{played_is}
 use Rattle.sig_report.proofs.Reports.{plans_kept}
 use Rattle.sig_report.proofs.Views.{no_shares, views_are}
 use Rattle.sig_report.specs.Lawful.{Lawful, all_views, kind_of_view}
-use Rattle.sig_report.specs.Playing.{Played, Watched, opened, play, scheduled, source_names, source_reports, view_names, view_reports}
+use Rattle.sig_report.specs.Playing.{Played, opened, play, scheduled, source_names, source_reports, view_names, view_reports}
 use Rattle.sig_report.specs.Text.{report_text}
 use Rattle.sig_report.specs.declared.report.Report.{Report}
 use Rattle.sig_report.specs.declared.report.SourceReport.{SourceReport}
 use Rattle.sig_report.specs.declared.report.ViewReport.{ViewReport}
 use Rattle.sig_run.specs.Program.{IsReportOf}
-use Rattle.sig_run.specs.Reporting.{report_of, reports_of, view_report_of, view_reports_of}
+use Rattle.sig_run.specs.Reporting.{reports_of, view_reports_of}
 use Rattle.sig_run.specs.Stages.{AreViewsOf, IsInStep, IsPlayable, played_of, reported}
-use Rattle.sig_run.specs.Watching.{ShowsItsRows, tree_of, watched_of}
+use Rattle.sig_run.specs.Watching.{ShowsItsRows, watched_of}
 use Rattle.sig_run.specs.declared.stage.Stage.{Stage}
 use Rattle.sig_run.specs.declared.watching.WatchedView.{WatchedView}
 use Rattle.sig_script.specs.Plans.{plans_of, source_plans}

@@ -1,5 +1,5 @@
 -- The views of a stage: each follows its source as the sources grow, and as the views are polled.
-use Rattle.std.proofs.Common.{◌≡◌, ◌∙◌, ℕ, zero, suc, ◌+◌, ◌<◌, ◌≤◌, ℤ, List, [], ◌∷◌, length, map, get_or, slice_set, Bool, true, false, nat_lt, All, Option, None, Some, refl, sym, ap, subst, arith}
+use Rattle.std.proofs.Common.{◌≡◌, ◌∙◌, ℕ, zero, suc, ◌+◌, ◌<◌, ℤ, List, [], ◌∷◌, length, map, get_or, slice_set, true, nat_lt, All, Option, None, Some, refl, sym, ap, subst, arith}
 use Rattle.std.proofs.lemmas.Bool.{and_parts}
 use Rattle.std.proofs.lemmas.Bool.Decides.{nat_tests}
 use Rattle.std.proofs.lemmas.List.{get_or-map, map-set}
@@ -18,12 +18,11 @@ use Rattle.sig_report.specs.Lawful.{all_views, sources_of}
 use Rattle.sig_report.specs.Playing.{Watched, polled, view_at}
 use Rattle.sig_run.specs.Stages.{AreViewsOf, IsViewOf}
 use Rattle.sig_run.proofs.Lists.{only_leaf}
-use Rattle.sig_run.specs.Watching.{IsFollowing, IsFresh, Stands, items_of, list_tree, shown_of, sources_under, tree_of, watched_of}
+use Rattle.sig_run.specs.Watching.{IsFollowing, IsFresh, Stands, items_of, list_tree, sources_under, tree_of, watched_of}
 use Rattle.sig_run.specs.declared.watching.WatchedView.{WatchedView}
 use Rattle.sig_script.specs.SelfContained.{has_shown, has_source}
 use Rattle.sig_script.specs.declared.types.Script.{Script}
 use Rattle.sig_script.specs.declared.types.ViewDef.{ViewDef}
-use Rattle.sig_view.specs.Flow.{state_at}
 use Rattle.sig_view.specs.declared.rows.Row.{Row}
 
 -- ---- one view

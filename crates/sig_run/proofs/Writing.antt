@@ -1,24 +1,25 @@
 -- What a writer's event asks of the sources, and what it does to them.
-use Rattle.std.proofs.Common.{◌≡◌, ◌∙◌, ℕ, zero, suc, ◌+◌, ◌<◌, ◌≤◌, ◌==◌, List, [], ◌∷◌, length, map, get_or, slice_get, Bool, true, false, ◌&&◌, not, nat_lt, if◌then◌else◌, None, Some, refl, sym, ap, ap₂, arith}
+use Rattle.std.proofs.Common.{◌≡◌, ◌∙◌, ℕ, zero, suc, ◌+◌, ◌<◌, ◌≤◌, ◌==◌, List, [], ◌∷◌, length, take, map, get_or, slice_get, cond, Bool, true, false, ◌&&◌, not, nat_lt, if◌then◌else◌, Some, refl, sym, ap, ap₂, arith}
 use Rattle.std.proofs.lemmas.Bool.{and_parts, eq-eqb, not-true}
 use Rattle.std.proofs.lemmas.Bool.Decides.{nat_tests}
+use Rattle.std.proofs.lemmas.List.{length-map, take-append-le}
 use Rattle.std.proofs.lemmas.Option.{slice_get_past, slice_get_within}
 use Rattle.std.specs.List.{list_all}
 use Rattle.sig_hist.proofs.Entries.{leave_is_fine}
-use Rattle.sig_hist.specs.Histories.{has_left, is_leave}
-use Rattle.sig_hist.specs.OneThread.{OneThread, after_leave, no_source}
-use Rattle.sig_hist.specs.Sources.{Source, content_of, entered, is_among, writers_of}
+use Rattle.sig_hist.specs.Histories.{has_left, is_leave, own_entries}
+use Rattle.sig_hist.specs.OneThread.{OneThread, after_leave}
+use Rattle.sig_hist.specs.Sources.{Source, allowed, content_of, entered, is_among, made, writers_of}
 use Rattle.sig_hist.specs.declared.edits.Edit.{Edit}
 use Rattle.sig_hist.specs.declared.edits.Edit.TheVariants.{Leave}
+use Rattle.sig_hist.specs.declared.edits.Entry.{Entry}
 use Rattle.sig_hist.specs.declared.edits.Reply.{Reply}
-use Rattle.sig_report.proofs.Allowing.{among_at}
+use Rattle.sig_report.proofs.Allowing.{allowed_at, among_at}
 use Rattle.sig_report.proofs.Events.{IsPlay, some_on, source_at}
 use Rattle.sig_report.proofs.Views.{no_shares}
-use Rattle.sig_report.proofs.Writers.{has_not_left, no_leaves_at}
+use Rattle.sig_report.proofs.Writers.{events_on, has_not_left, no_leaves_at}
 use Rattle.sig_report.specs.Lawful.{no_writer}
 use Rattle.sig_report.specs.Playing.{Played, edits_of, left_by, written}
 use Rattle.sig_run.specs.Stages.{AreOpenTo, IsOpenTo, IsPlayable}
-use Rattle.sig_script.specs.Leaving.{leaves_nowhere}
 use Rattle.sig_script.specs.Rooms.{edits_on}
 use Rattle.sig_script.specs.SelfContained.{has_edited, has_source}
 use Rattle.sig_script.specs.declared.types.Script.{Script}
@@ -56,6 +57,18 @@ edited_at script [] writer all = refl
 edited_at script (first ∷ writers) zero all = (and_parts _ _ all).0
 edited_at script (first ∷ writers) (suc writer) all = edited_at script writers writer (and_parts _ _ all).1
 
+-- ---- edits that are left
+
+fewer_if : (here : Bool) (edit : Edit) (edits more : List Edit) → length edits < length more → length (cond here (edit ∷ edits) edits) < length (cond here (edit ∷ more) more)
+fewer_if true edit edits more fewer = omega arith
+fewer_if false edit edits more fewer = fewer
+
+-- before an edit on a source there were fewer on it than there are
+fewer_on : (number : ℕ) (edits : List (ℕ × Edit)) (place : ℕ) (edit : ℕ × Edit) → slice_get edits place ≡ Some edit → (edit.0 == number) ≡ true → length (edits_on number (take place edits)) < length (edits_on number edits)
+fewer_on number [] place edit is here = cc
+fewer_on number (first ∷ edits) zero edit is here = let same : first ≡ edit = cc in rw (same, here) (omega arith)
+fewer_on number (first ∷ edits) (suc place) edit is here = fewer_if (first.0 == number) first.1 (edits_on number (take place edits)) (edits_on number edits) (fewer_on number edits place edit is here)
+
 -- ---- the next event
 
 module _ (script : Script) (playable : IsPlayable script) (p : Played) (is : IsPlay script p) (port : OneThread) (sources : port.sources ≡ p.sources) (writer : ℕ) where
@@ -64,6 +77,13 @@ module _ (script : Script) (playable : IsPlayable script) (p : Played) (is : IsP
 
   stays_in : (number : ℕ) → is_among writer (writers_of (source_at p number).plan.allow) ≡ true → get_or p.done writer 0 ≤ length edits → has_left writer (source_at p number).history ≡ false
   stays_in number among few = has_not_left script p.done number writer (source_at p number) playable.no_leaves (is.made number) among few
+
+  made_so_far : (number : ℕ) → is_among writer (writers_of (source_at p number).plan.allow) ≡ true → get_or p.done writer 0 ≤ length edits →
+      made (source_at p number) writer ≡ length (edits_on number (take (get_or p.done writer 0) edits))
+  made_so_far number among few =
+      let entries : List Entry = own_entries writer (source_at p number).history in
+      let front : take (get_or p.done writer 0) (events_on number edits) ≡ take (get_or p.done writer 0) edits = take-append-le (get_or p.done writer 0) edits ((number, Leave) ∷ []) few in
+      sym (length-map entries (λ (entry : Entry). entry.edit)) ∙ ap length ((is.made number).own writer among) ∙ ap (λ (front : List (ℕ × Edit)). length (edits_on number front)) front
 
   may_edit : (edit : ℕ × Edit) → slice_get edits (get_or p.done writer 0) ≡ Some edit → IsOpenTo port writer edit
   may_edit edit next =
@@ -76,9 +96,14 @@ module _ (script : Script) (playable : IsPlayable script) (p : Played) (is : IsP
       let writes : not (length (edits_on number edits) == 0) ≡ true = grind (arith, nat_tests) in
       let among : is_among writer (writers_of (source_at p number).plan.allow) ≡ true = rw (is.made number).plan (among_at script (no_shares script playable.built) number writer within ∙ writes) in
       let below = slice_get_within edits (get_or p.done writer 0) edit next in
+      let all : allowed writer (source_at p number).plan.allow ≡ length (edits_on number edits) = rw (is.made number).plan (allowed_at script (no_shares script playable.built) number writer within) in
+      let few : get_or p.done writer 0 ≤ length edits = omega arith in
+      let fewer : made (source_at p number) writer < allowed writer (source_at p number).plan.allow =
+      rw (all, made_so_far number among few) (fewer_on number edits (get_or p.done writer 0) edit next (eq-eqb number number refl)) in
       record {
         source = rw (sources, is.sources) within;
-        is_in = rw sources (record { is_writer = among; stays = stays_in number among (omega arith) });
+        is_in = rw sources (record { is_writer = among; stays = stays_in number among few });
+        may = rw sources (record { made_fewer = fewer });
         no_leave = not-true _ (holds_at (λ (edit : ℕ × Edit). not (is_leave edit.1)) edits (get_or p.done writer 0) edit (no_leaves_at script.writers writer playable.no_leaves) next);
       }
 

@@ -2,6 +2,7 @@
 use Rattle.std.specs.Prelude.{◌≡◌, ℕ, ◌<◌, List, [], ◌∷◌, length, map, get_or, slice_get, true, false, None, Some}
 use Rattle.sig_expr.specs.Shapes.{view_tree}
 use Rattle.sig_expr.specs.declared.expressions.View.{View}
+use Rattle.sig_hist.specs.Counting.{MayEdit}
 use Rattle.sig_hist.specs.Histories.{is_leave}
 use Rattle.sig_hist.specs.OneThread.{OneThread, StaysWhereItWrites, no_source, source_at}
 use Rattle.sig_hist.specs.Sources.{IsIn, Source}
@@ -49,6 +50,7 @@ pub record IsInStep (script : Script) (stage : Stage) : Type 0 where
 pub record IsOpenTo (port : OneThread) (caller : ℕ) (edit : ℕ × Edit) : Type 0 where
   pub source : edit.0 < length port.sources
   pub is_in : IsIn (source_at port edit.0) caller
+  pub may : MayEdit (source_at port edit.0) caller
   pub no_leave : is_leave edit.1 ≡ false
 
 -- what its event after so many asks: that of its edit, or after the last one that it stays in all its sources

@@ -10,7 +10,7 @@ ghost use Rattle.sig_script.specs.SelfContained.{has_event};
 use crate::reporting::{source_reports, view_reports};
 use crate::watching::WatchedView;
 use sig_diff::{Items, NoMemory};
-use sig_hist::{Edit, Plain};
+use sig_hist::{Edit, EditError, Plain};
 use sig_report::Report;
 use sig_script::{Event, Script, ViewDef, WriterDef, plans};
 use std::alloc::{AllocError, Global};
@@ -233,15 +233,16 @@ fn edit_at(edits: &[(usize, Edit)], place: usize) -> &(usize, Edit)
     &edits[place]
 }
 
-/// Makes an edit. One that is refused because its caller has made all its edits counts as want of memory: no play
-/// meets it.
+/// Makes an edit of a source.
 fn edit_source(port: &mut Plain, source: usize, caller: u32, edit: &Edit) -> Result<(), NoMemory>
     requires { IsOpenTo port.old caller (source, edit.now) }
     ensures { OnOk result (port.new.sources ≡ with_edit source caller edit.now port.old.sources) }
 {
     match port.edit(source, caller, edit) {
         Ok(_) => Ok(()),
-        Err(_) => Err(AllocError),
+        Err(EditError::NoMemory) => Err(AllocError),
+        // A writer makes no other edits than its own.
+        Err(EditError::Spent { .. }) => unreachable!(),
     }
 }
 

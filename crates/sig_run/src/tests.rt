@@ -44,25 +44,189 @@ fn run<R: Threads + Wait + Sync>(
     Ok(signals(rt, alloc, &line, &mut input, page, &Open))
 }
 
+/// Scripts, the status of each, and the text that is written.
+const PLAYS: [(&str, u8, &str); 15] = [
+    (SCRIPT, 0, REPORT),
+    (STILL, 0, STILL_REPORT),
+    (PASSED, 0, PASSED_REPORT),
+    // A view of the vector itself.
+    (
+        r#"{"version": 1, "sources": [{"name": "a", "vector": []}], "writers": [], "views": [{"name": "v", "vector": {"vector": "a"}}], "schedule": []}"#,
+        0,
+        "source a vector []\nfinal []\nview v vector\nat 0: replace []\nat 0: ended\nfinal []\n",
+    ),
+    // A pop of the empty list.
+    (
+        r#"{"version": 1, "sources": [{"name": "a", "vector": []}], "writers": [{"name": "w", "edits": [{"on": "a", "pop": true}]}], "views": [{"name": "v", "vector": {"vector": "a"}}], "schedule": ["v", "w", "v"]}"#,
+        0,
+        "source a vector []\n1 w pop -> out of range 0\n2 w leave -> ok\nfinal []\nview v vector\nat 0: replace []\nat 1: moved\nat 2: moved\nat 2: ended\nfinal []\n",
+    ),
+    // Moves under a filter.
+    (
+        r#"{"version": 1, "sources": [{"name": "a", "vector": [1, 5, 2, 6]}], "writers": [{"name": "w", "edits": [{"on": "a", "move": [1, 3]}, {"on": "a", "move": [0, 1]}]}], "views": [{"name": "v", "vector": {"filter": {"ge": 3}, "of": {"vector": "a"}}}], "schedule": ["v", "w", "v", "w", "v"]}"#,
+        0,
+        "source a vector [1, 5, 2, 6]\n1 w move 1 3 -> ok\n2 w move 0 1 -> ok\n3 w leave -> ok\nfinal [2, 1, 6, 5]\nview v vector\nat 0: replace [5, 6]\nat 1: move 0 1\nat 2: moved\nat 3: moved\nat 3: ended\nfinal [6, 5]\n",
+    ),
+    // Updates under a filter.
+    (
+        r#"{"version": 1, "sources": [{"name": "a", "vector": [1, 5]}], "writers": [{"name": "w", "edits": [{"on": "a", "update": [0, 4]}, {"on": "a", "update": [1, 6]}, {"on": "a", "update": [0, 2]}, {"on": "a", "update": [0, 1]}]}], "views": [{"name": "v", "vector": {"filter": {"ge": 3}, "of": {"vector": "a"}}}], "schedule": ["v", "w", "v", "w", "v", "w", "v", "w", "v"]}"#,
+        0,
+        "source a vector [1, 5]\n1 w update 0 4 -> was 1\n2 w update 1 6 -> was 5\n3 w update 0 2 -> was 4\n4 w update 0 1 -> was 2\n5 w leave -> ok\nfinal [1, 6]\nview v vector\nat 0: replace [5]\nat 1: insert 0 4\nat 2: update 1 6\nat 3: remove 0\nat 4: moved\nat 5: moved\nat 5: ended\nfinal [6]\n",
+    ),
+    // The refusals by their numbers.
+    ("{", 4, "script 1\n"),
+    (
+        r#"{"version":1,"sources":[{"name":"a","vector":[1.5,1]}],"writers":[{"name":"w","edits":[{"on":"a","push":7},{"on":"a","remove":0}]}],"views":[{"name":"f","vector":{"filter":{"ge":3},"of":{"vector":"a"}}}],"schedule":["f","w","f","w","f"]}"#,
+        4,
+        "script 2 /sources/0/vector/0\n",
+    ),
+    (
+        r#"{"version":1,"sources":[{"name":"a","vector":[5,1]}],"writers":[{"name":"w","edits":[{"on":"a","push":7},{"on":"a","remove":0}]}],"views":[{"name":"a","vector":{"filter":{"ge":3},"of":{"vector":"a"}}}],"schedule":["f","w","f","w","f"]}"#,
+        4,
+        "script 3 /views/0/name\n",
+    ),
+    (
+        r#"{"version": 1, "sources": [{"name": "a", "vector": [5, 1]}, {"name": "x0", "cell": 0}, {"name": "x1", "cell": 0}, {"name": "x2", "cell": 0}, {"name": "x3", "cell": 0}, {"name": "x4", "cell": 0}, {"name": "x5", "cell": 0}, {"name": "x6", "cell": 0}, {"name": "x7", "cell": 0}, {"name": "x8", "cell": 0}, {"name": "x9", "cell": 0}, {"name": "x10", "cell": 0}, {"name": "x11", "cell": 0}, {"name": "x12", "cell": 0}, {"name": "x13", "cell": 0}, {"name": "x14", "cell": 0}, {"name": "x15", "cell": 0}], "writers": [{"name": "w", "edits": [{"on": "a", "push": 7}, {"on": "a", "remove": 0}]}], "views": [{"name": "f", "vector": {"filter": {"ge": 3}, "of": {"vector": "a"}}}], "schedule": ["f", "w", "f", "w", "f"]}"#,
+        4,
+        "script 4 /sources\n",
+    ),
+    (
+        r#"{"version":1,"sources":[{"name":"a","vector":[5,1]}],"writers":[{"name":"w","edits":[{"on":"a","push":7},{"on":"a","remove":0}]}],"views":[{"name":"f","vector":{"filter":{"ge":3},"of":{"vector":"a"}}}],"schedule":["w","w","w","w"]}"#,
+        4,
+        "script 6 3\n",
+    ),
+    (
+        r#"{"version": 1, "sources": [{"name": "a", "vector": [9223372036854775807, 1]}], "writers": [{"name": "w", "edits": [{"on": "a", "remove": 0}]}], "views": [{"name": "v", "signal": {"sum": {"vector": "a"}}}], "schedule": ["v", "w", "v"]}"#,
+        4,
+        "script 8 /views/0/signal\n",
+    ),
+    (
+        r#"{"version": 1, "sources": [{"name": "a", "vector": [1]}, {"name": "c", "cell": 1}], "shares": [{"name": "s", "start": 0, "signal": {"cell": "c"}}], "writers": [{"name": "w", "edits": [{"on": "a", "remove": 0}]}], "views": [{"name": "v", "signal": {"sum": {"vector": "a"}}}], "schedule": ["v", "w", "v"]}"#,
+        4,
+        "script 8 /shares\n",
+    ),
+    // Three writers, one of them without edits, and sources of each kind.
+    (
+        r#"{"version":1,"sources":[{"name":"a","vector":[1]},{"name":"c","cell":4},{"name":"m","map":[]}],"writers":[{"name":"w","edits":[{"on":"a","push":5},{"on":"c","add":3}]},{"name":"x","edits":[{"on":"a","pop":true},{"on":"m","put":[2,7]}]},{"name":"idle","edits":[]}],"views":[{"name":"v","vector":{"vector":"a"}},{"name":"f","vector":{"filter":{"ge":3},"of":{"vector":"a"}}}],"schedule":["w","v","x","f","x","v"]}"#,
+        0,
+        "source a vector [1]\n1 w push 5 -> ok\n2 x pop -> was 5\n3 w leave -> ok\n4 x leave -> ok\nfinal [1]\nsource c cell 4\n1 w add 3 -> was 4\n2 w leave -> ok\nfinal 7\nsource m map {}\n1 x put 2 7 -> ok\n2 x leave -> ok\nfinal {2: 7}\nview v vector\nat 1: replace [1, 5]\nat 2: pop\nat 4: moved\nat 4: ended\nfinal [1]\nview f vector\nat 2: replace []\nat 4: moved\nat 4: ended\nfinal []\n",
+    ),
+];
+
+/// Whether a script gives this status and this text.
+fn is_answered<R: Threads + Wait + Sync>(
+    rt: &R,
+    alloc: Global,
+    text: &str,
+    status: u8,
+    written: &str,
+) -> Result<bool, AllocError> {
+    let mut page = Page::new(alloc, 10_000, 1000, Vec::new(alloc))?;
+    let ended = run(rt, alloc, &["play"], text, 0, &mut page)?;
+    Ok(ended == status && page.as_slice() == written.as_bytes())
+}
+
 #[test]
 fn scripts_give_their_reports_or_the_line_of_a_refusal(rt: HostRuntime) -> Result<(), Fail> {
-    let popping =
-        "{\"version\":1,\"sources\":[{\"name\":\"a\",\"vector\":[5,1]}],\"writers\":[{\"name\":\"w\",\"edits\":[{\"on\":\"a\",\"push\":7},{\"on\":\"a\",\"pop\":true}]}],\"views\":[{\"name\":\"f\",\"vector\":{\"filter\":{\"ge\":3},\"of\":{\"vector\":\"a\"}}}],\"schedule\":[]}";
-    for (text, status, written) in [
-        (SCRIPT, 0, REPORT),
-        (STILL, 0, STILL_REPORT),
-        (PASSED, 0, PASSED_REPORT),
-        ("{", 4, "script 1\n"),
-        (popping, 4, "script 8\n"),
-    ] {
-        let mut page = Page::new(rt.alloc(), 1000, 1000, Vec::new(rt.alloc()))?;
-        assert_eq!(rt;
-            run(&rt, rt.alloc(), &["play"], text, 0, &mut page)?,
-            status,
+    for (text, status, written) in PLAYS {
+        assert!(rt;
+            is_answered(&rt, rt.alloc(), text, status, written)?,
             "at {text}"
         );
-        assert_eq!(rt; page.as_slice(), written.as_bytes(), "at {text}");
     }
+    Ok(())
+}
+
+/// The numbers from 1 to the count, each after a text, with another between them.
+fn counted(alloc: Global, count: u32, before: &str, between: &str) -> Result<String, Fail> {
+    let mut all = String::new(alloc);
+    for number in 1..=count {
+        if number > 1 {
+            all.push_str(between)?;
+        }
+        all.push_str(before)?;
+        all.push_str(itoa::Buffer::new().format(number))?;
+    }
+    Ok(all)
+}
+
+/// A text so many times, with another between them.
+fn repeated(alloc: Global, count: u32, item: &str, between: &str) -> Result<String, Fail> {
+    let mut all = String::new(alloc);
+    for number in 0..count {
+        if number > 0 {
+            all.push_str(between)?;
+        }
+        all.push_str(item)?;
+    }
+    Ok(all)
+}
+
+/// A writer that pushes the numbers from 1 to the count, all of them between two polls.
+fn pushing(alloc: Global, count: u32) -> Result<String, Fail> {
+    let edits = counted(alloc, count, r#"{"on":"a","push":"#, "},")?;
+    let events = repeated(alloc, count, r#""w","#, "")?;
+    Ok(format!(in alloc;
+        "{{\"version\":1,\"sources\":[{{\"name\":\"a\",\"vector\":[]}}],\"writers\":[{{\"name\":\"w\",\"edits\":[{edits}}}]}}],\"views\":[{{\"name\":\"v\",\"vector\":{{\"vector\":\"a\"}}}}],\"schedule\":[\"v\",{events}\"v\"]}}"
+    )?)
+}
+
+/// The end of its report, from the view on, where the second poll gave this.
+fn pushed(alloc: Global, count: u32, given: &str) -> Result<String, Fail> {
+    let items = counted(alloc, count, "", ", ")?;
+    let over = count.saturating_add(1);
+    Ok(format!(in alloc;
+        "final [{items}]\nview v vector\nat 0: replace []\nat {count}: {given}\nat {over}: moved\nat {over}: ended\nfinal [{items}]\n"
+    )?)
+}
+
+/// Whether a script is played to a report that ends so.
+fn report_ends<R: Threads + Wait + Sync>(
+    rt: &R,
+    alloc: Global,
+    text: &str,
+    end: &str,
+) -> Result<bool, AllocError> {
+    let mut page = Page::new(alloc, 10_000, 1000, Vec::new(alloc))?;
+    let ended = run(rt, alloc, &["play"], text, 0, &mut page)?;
+    Ok(ended == 0 && page.as_slice().ends_with(end.as_bytes()))
+}
+
+#[test]
+fn a_row_follows_sixty_four_entries_one_by_one(rt: HostRuntime) -> Result<(), Fail> {
+    let given = counted(rt.alloc(), 64, "push ", "; ")?;
+    let end = pushed(rt.alloc(), 64, given.as_str())?;
+    let text = pushing(rt.alloc(), 64)?;
+    assert!(rt; report_ends(&rt, rt.alloc(), text.as_str(), end.as_str())?);
+    Ok(())
+}
+
+#[test]
+fn a_row_catches_up_with_more_entries_at_once(rt: HostRuntime) -> Result<(), Fail> {
+    let items = counted(rt.alloc(), 65, "", ", ")?;
+    let given = format!(in rt.alloc(); "replace [{items}]")?;
+    let end = pushed(rt.alloc(), 65, given.as_str())?;
+    let text = pushing(rt.alloc(), 65)?;
+    assert!(rt; report_ends(&rt, rt.alloc(), text.as_str(), end.as_str())?);
+    Ok(())
+}
+
+#[test]
+fn a_list_that_can_get_too_big_is_refused(rt: HostRuntime) -> Result<(), Fail> {
+    let outer = repeated(rt.alloc(), 256, "0", ",")?;
+    let bank = repeated(rt.alloc(), 257, "1", ",")?;
+    let text = format!(in rt.alloc();
+        "{{\"version\":1,\"sources\":[{{\"name\":\"o\",\"vector\":[{outer}]}},{{\"name\":\"b\",\"vector\":[{bank}]}}],\"writers\":[],\"views\":[{{\"name\":\"v\",\"vector\":{{\"flatten\":{{\"vector\":\"o\"}},\"bank\":[{{\"vector\":\"b\"}}]}}}}]}}"
+    )?;
+    assert!(rt;
+        is_answered(
+            &rt,
+            rt.alloc(),
+            text.as_str(),
+            4,
+            "script 5 /views/0/vector\n"
+        )?
+    );
     Ok(())
 }
 
