@@ -50,17 +50,28 @@ impl Plain {
     pub fn new(alloc: Global, plans: Plans, leaves: LeafList) -> Result<Plain, NoMemory>
         requires plans { All IsPlan plans }
         requires leaves { All (λ source. source < length plans) leaves }
-        ensures { IfOk result (λ port. port ≡ record { sources = map source_of plans; leaves = map leaf_of leaves }) }
+        ensures port { IfOk result (λ port. port ≡ record { sources = map source_of plans; leaves = map leaf_of leaves }) }
+        ensures sound { IfOk result (λ port. IsSoundPort (known port)) }
     {
-        Ok(Plain {
+        let port = Plain {
             sources: sources_of(alloc, plans)?,
             leaves: leaves_of(alloc, leaves.as_slice())?,
-        })
+        };
+        port.tells_what_is_sound();
+        Ok(port)
+    }
+
+    /// Says of its invariant what callers need.
+    #[tactic(auto, using(crate::proofs::Knowing::known_is_sound))]
+    fn tells_what_is_sound(&self)
+        ensures { IsSoundPort (known self.now) }
+    {
+        let _sources = self.sources.len();
     }
 
     /// Makes an edit of a source, whether or not it has an effect, and puts it into the source's history. After a refusal
     /// nothing has changed.
-    #[tactic(auto, using(crate::proofs::Knowing::source_changed))]
+    #[tactic(auto, using(crate::proofs::Knowing::source_changed, crate::proofs::Knowing::known_is_sound))]
     pub fn edit(&mut self, source: usize, caller: u32, edit: &Edit) -> Result<Reply, EditError>
         requires source { source < length self.old.sources }
         requires is_in { IsIn (source_at self.old source) caller }
@@ -69,6 +80,7 @@ impl Plain {
         ensures entered { IfOk result (λ reply. self.new ≡ with_entry self.old source (record { caller = caller; edit = edit.now; reply = reply })) }
         ensures refused { IfErr result (IsRefusal (source_at self.old source) caller) }
         ensures err { OnErr result (self.new ≡ self.old) }
+        ensures sound { IsSoundPort (known self.new) }
     {
         let source = &mut self.sources[source];
         source.edit(caller, edit)
@@ -88,11 +100,13 @@ impl Plain {
     /// Takes a caller out of each source that it is a writer of. It takes no memory.
     pub fn leave_all(&mut self, caller: u32)
         requires { StaysWhereItWrites self.old caller }
-        ensures { self.new ≡ record self.old { sources = map (after_leave caller) self.old.sources } }
+        ensures left { self.new ≡ record self.old { sources = map (after_leave caller) self.old.sources } }
+        ensures sound { IsSoundPort (known self.new) }
     {
         'sources: for source in 0..self.sources.len() {
             self.leave_if_writer(source, caller);
         }
+        self.tells_what_is_sound();
     }
 
     /// Takes a caller out of a source, if it is a writer of it.
@@ -143,7 +157,7 @@ impl Port for Plain {
 
     ghost state = { known };
 
-    ghost is_same = { λ port next. length next.sources ≡ length port.sources };
+    ghost is_same = { λ port next. next.sources ≡ port.sources };
 
     ghost is_told = { λ port told task. Unit {0} };
 

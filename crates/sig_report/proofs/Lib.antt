@@ -1,4 +1,3 @@
-pub mod Turning
 pub mod RowSteps
 pub mod Growing
 pub mod Polls

@@ -1,6 +1,9 @@
 pub mod Codes
-pub mod Lists
 pub mod Polling
+pub mod Seeing
 pub mod Writing
 pub mod Viewing
+pub mod Sized
+pub mod Sizing
+pub mod Starting
 pub mod Reported

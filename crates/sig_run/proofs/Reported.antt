@@ -4,8 +4,9 @@ use Rattle.std.proofs.lemmas.List.{append-nil}
 use Rattle.std.proofs.lemmas.List.Elements.{All-cons}
 use Rattle.std.specs.List.{zip}
 use Rattle.sig_diff.specs.declared.contents.Content.{Content}
-use Rattle.sig_expr.specs.Trees.{ViewTree}
+use Rattle.sig_expr.specs.Shapes.{view_tree}
 use Rattle.sig_expr.specs.declared.expressions.View.{View}
+use Rattle.sig_hist.specs.OneThread.{OneThread}
 use Rattle.sig_hist.specs.Sources.{Source, content_of}
 use Rattle.sig_hist.specs.declared.plans.SourcePlan.{SourcePlan}
 use Rattle.sig_report.proofs.Allowing.{length_plans_of, plans_are}
@@ -66,20 +67,20 @@ sources_reported (def ∷ defs) (source ∷ sources) starts =
 
 -- ---- views
 
-views_reported : (sources : List Source) (defs : List ViewDef) (views : List WatchedView) → AreViewsOf sources (map (λ (def : ViewDef). def.view) defs) views →
+views_reported : (port : OneThread) (defs : List ViewDef) (views : List WatchedView) → AreViewsOf port (map (λ (def : ViewDef). def.view) defs) views →
     view_reports_of defs views ≡ view_reports (map (λ (def : ViewDef). def.name) defs) (map (λ (def : ViewDef). def.view) defs) (map watched_of views)
-views_reported sources [] [] are = refl
-views_reported sources [] (view ∷ views) are = absurd are
-views_reported sources (def ∷ defs) [] are = absurd are
-views_reported sources (def ∷ defs) (view ∷ views) are =
-    ap₂ (λ (tree : ViewTree ℕ) (others : List ViewReport). record { name = def.name; kind = kind_of_view def.view; rows = view.rows; last = replay_of (nothing_shown tree) view.rows } ∷ others)
-    are.0.tree (views_reported sources defs views are.1)
+views_reported port [] [] are = refl
+views_reported port [] (view ∷ views) are = absurd are
+views_reported port (def ∷ defs) [] are = absurd are
+views_reported port (def ∷ defs) (view ∷ views) are =
+    ap₂ (λ (shown : View) (others : List ViewReport). record { name = def.name; kind = kind_of_view def.view; rows = view.rows; last = replay_of (nothing_shown (view_tree shown)) view.rows } ∷ others)
+    are.0.expression (views_reported port defs views are.1)
 
-pub all_show : (sources : List Source) (shown : List View) (views : List WatchedView) → AreViewsOf sources shown views → All ShowsItsRows views
-all_show sources [] [] are = λ place view within. absurd (omega arith)
-all_show sources [] (view ∷ views) are = absurd are
-all_show sources (one ∷ shown) [] are = absurd are
-all_show sources (one ∷ shown) (view ∷ views) are = All-cons ShowsItsRows view views are.0.following.shows (all_show sources shown views are.1)
+pub all_show : (port : OneThread) (shown : List View) (views : List WatchedView) → AreViewsOf port shown views → All ShowsItsRows views
+all_show port [] [] are = λ place view within. absurd (omega arith)
+all_show port [] (view ∷ views) are = absurd are
+all_show port (one ∷ shown) [] are = absurd are
+all_show port (one ∷ shown) (view ∷ views) are = All-cons ShowsItsRows view views are.0.following.shows (all_show port shown views are.1)
 
 -- ---- the report
 
@@ -100,12 +101,11 @@ module _ (script : Script) (stage : Stage) (step : IsInStep script stage) where
 
   pub views_reports_are : view_reports_of script.views stage.views.items ≡ (reported script (played_of stage)).views
   views_reports_are =
-      let sources : List Source = stage.port.sources in
       let shown : all_views script ≡ map (λ (def : ViewDef). def.view) script.views = views_are script unshared in
-      let are : AreViewsOf sources (map (λ (def : ViewDef). def.view) script.views) stage.views.items = subst (λ (shown : List View). AreViewsOf sources shown stage.views.items) shown step.views in
+      let are : AreViewsOf stage.port (map (λ (def : ViewDef). def.view) script.views) stage.views.items = subst (λ (shown : List View). AreViewsOf stage.port shown stage.views.items) shown step.views in
       let names : view_names script ≡ map (λ (def : ViewDef). def.name) script.views =
       ap (λ (shares : List ShareDef). map (λ (share : ShareDef). share.name) shares ++ map (λ (def : ViewDef). def.name) script.views) unshared in
-      views_reported sources script.views stage.views.items are
+      views_reported stage.port script.views stage.views.items are
       ∙ ap₂ (λ (names : List (List ℕ)) (shown : List View). view_reports names shown (map watched_of stage.views.items)) (sym names) (sym shown)
 
 -- the report of a play that has gone on to its end

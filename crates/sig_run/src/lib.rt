@@ -7,6 +7,8 @@ mod program;
 mod reporting;
 mod stage;
 #[cfg(test)]
+mod task_tests;
+#[cfg(test)]
 mod tests;
 mod watching;
 mod words;

@@ -3,6 +3,7 @@ ghost use Rattle.sig_report.specs.Playing.{play};
 ghost use Rattle.sig_script.specs.Built.{unbuilt};
 ghost use Rattle.sig_script.specs.Leaving.{has_no_leaves};
 ghost use Rattle.sig_script.specs.SelfContained.{IsSelfContained};
+ghost use Rattle.sig_script.specs.Sizes.{size_fault};
 
 use crate::stage::Stage;
 use sig_diff::NoMemory;
@@ -17,6 +18,7 @@ pub fn play(alloc: Global, script: &Script) -> Result<Report, NoMemory>
     requires built { unbuilt script.now ≡ None }
     requires no_leaves { has_no_leaves script.now ≡ true }
     requires self_contained { IsSelfContained script.now }
+    requires sized { size_fault script.now ≡ None }
     ensures play { IfOk result (λ report. report ≡ play script.now) }
     ensures few { IfOk result (λ report. All (λ source. length source.history < 2 ^ 32) report.sources) }
 {

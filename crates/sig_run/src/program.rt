@@ -5,6 +5,7 @@ ghost use Rattle.sig_io.specs.Transfer.{Takes, AppendsPrefix};
 ghost use Rattle.sig_script.specs.Built.{unbuilt};
 ghost use Rattle.sig_script.specs.Leaving.{has_no_leaves};
 ghost use Rattle.sig_script.specs.SelfContained.{IsSelfContained};
+ghost use Rattle.sig_script.specs.Sizes.{size_fault};
 ghost use Rattle.sig_run.specs.Program.{line_of, refusal_line, IsReportOf, IsReport, IsRefusal, IsAnswer, Answers, IsSilent, Answered};
 
 use crate::gate::Gate;
@@ -146,6 +147,7 @@ fn write_or<K: Sink>(output: &mut K, text: &[u8], status: Status) -> Status
 }
 
 /// What is written for the bytes of an input.
+#[tactic(auto, using(crate::proofs::Sized::sized_when_read))]
 fn answer_to(alloc: Global, bytes: &[u8]) -> Result<Answer, NoMemory>
     ensures { IfOk result (Answers bytes.now) }
 {
@@ -161,6 +163,7 @@ fn played(alloc: Global, script: &Script) -> Result<Vec<u8>, NoMemory>
     requires built { unbuilt script.now ≡ None }
     requires no_leaves { has_no_leaves script.now ≡ true }
     requires self_contained { IsSelfContained script.now }
+    requires sized { size_fault script.now ≡ None }
     ensures { IfOk result (λ text. IsReportOf script.now text.items) }
 {
     let report = play(alloc, script)?;

@@ -60,7 +60,7 @@ fn view_report(def: &ViewDef, view: WatchedView) -> Result<ViewReport, NoMemory>
     requires { ShowsItsRows view }
     ensures { IfOk result (λ report. report ≡ view_report_of def.now view) }
 {
-    let (rows, last) = view.into_rows()?;
+    let (rows, last) = view.into_rows();
     Ok(ViewReport {
         name: def.name.copy()?,
         kind: kind_of(&def.view),

@@ -2,23 +2,29 @@ ghost use Rattle.std.specs.Prelude.{◌≡◌, ◌+◌, ◌<◌, ◌^◌, ◌==�
 ghost use Rattle.sig_expr.specs.Shapes.{view_tree};
 ghost use Rattle.sig_report.specs.Lawful.{all_views};
 ghost use Rattle.sig_report.specs.Playing.{edits_of, with_edit, written};
-ghost use Rattle.sig_run.specs.Stages.{AreOpenTo, IsOpenTo};
-ghost use Rattle.sig_run.specs.Watching.{IsFresh, tree_of};
+ghost use Rattle.sig_run.specs.Stages.{AreFresh, AreOpenTo, IsOpenTo, leaf_sources};
+ghost use Rattle.sig_expr.specs.Bounds.{cap_of};
+ghost use Rattle.sig_expr.specs.Leaves.{leaves};
+ghost use Rattle.sig_hist.specs.OneThread.{known};
+ghost use Rattle.sig_hist.specs.Ports.{IsSoundPort};
 ghost use Rattle.sig_script.specs.Built.{unbuilt_views};
+ghost use Rattle.sig_script.specs.Sizes.{views_size};
+ghost use Rattle.sig_view.specs.Tasks.{HasSeenMore};
 ghost use Rattle.sig_script.specs.SelfContained.{has_event};
 
 use crate::reporting::{source_reports, view_reports};
 use crate::watching::WatchedView;
-use sig_diff::{Items, NoMemory};
+use sig_diff::{Items, LeafList, NoMemory};
+use sig_expr::{Caps, View, leaves};
 use sig_hist::{Edit, EditError, Plain};
 use sig_report::Report;
-use sig_script::{Event, Script, ViewDef, WriterDef, plans};
+use sig_script::{Event, Script, ViewDef, WriterDef, caps, plans};
 use std::alloc::{AllocError, Global};
 
 /// A play at one moment.
 #[derive(Drop)]
 pub struct Stage {
-    /// The sources. The port has no leaves of its own.
+    /// The sources, and the leaves of the views, one view's behind another's.
     port: Plain,
     /// How many events each writer has had.
     done: Vec<usize>,
@@ -36,10 +42,12 @@ impl Stage {
         ensures step { IfOk result (IsInStep script.now) }
         ensures played { IfOk result (λ stage. played_of stage ≡ opened script.now) }
     {
+        let views = script.views.as_slice();
+        let caps = caps(alloc, script)?;
         Ok(Stage {
-            port: Plain::new(alloc, plans(alloc, script)?, Items::new(alloc))?,
+            port: Plain::new(alloc, plans(alloc, script)?, leaves_of(alloc, views)?)?,
             done: none_done(alloc, script.writers.as_slice())?,
-            views: views_of(alloc, script.views.as_slice())?,
+            views: views_of(alloc, views, &caps)?,
         })
     }
 
@@ -83,9 +91,8 @@ impl Stage {
         ensures played { OnOk result (played_of self.new
             ≡ by_view script.now view (played_of self.old)) }
     {
-        let view = &mut self.views[view];
-        view.poll(alloc, &self.port)?;
-        Ok(())
+        let Stage { port, views, .. } = self;
+        views[view].poll(alloc, port)
     }
 
     /// The events of the schedule.
@@ -178,28 +185,52 @@ fn none_done(alloc: Global, writers: &[WriterDef]) -> Result<Vec<usize>, NoMemor
     Ok(done)
 }
 
+/// The source of each leaf of the views.
+fn leaves_of(alloc: Global, defs: &[ViewDef]) -> Result<LeafList, NoMemory>
+    ensures { IfOk result (λ sources. sources ≡ leaf_sources defs.now) }
+{
+    let mut sources = Vec::new(alloc);
+    'views: for def in defs {
+        sources.extend_from_slice(leaves(alloc, &def.view)?.as_slice())?;
+    }
+    Ok(Items::from_vec(sources))
+}
+
 /// The views before their first rows.
-fn views_of(alloc: Global, defs: &[ViewDef]) -> Result<Vec<WatchedView>, NoMemory>
-    requires { unbuilt_views 0 defs.now ≡ None }
-    ensures trees { IfOk result (λ views. map tree_of views.items ≡ map (λ def. view_tree def.view) defs.now) }
-    ensures fresh { IfOk result (λ views. All IsFresh views.items) }
+fn views_of(alloc: Global, defs: &[ViewDef], caps: &Caps) -> Result<Vec<WatchedView>, NoMemory>
+    requires built { unbuilt_views 0 defs.now ≡ None }
+    requires sized { views_size (cap_of caps.now) 0 defs.now ≡ None }
+    ensures { IfOk result (λ views. AreFresh caps.now 0 defs.now views.items) }
 {
     let mut views = Vec::with_capacity(alloc, defs.len())?;
+    let mut first = 0;
     'views: for def in defs {
-        views.push(WatchedView::new(alloc, &def.view))?;
+        views.push(WatchedView::new(alloc, &def.view, caps, first)?)?;
+        first = next_first(alloc, first, &def.view)?;
     }
     Ok(views)
 }
 
+/// The number of the first leaf behind a view. Where no usize is as large, which no script comes to, that counts as want of memory.
+fn next_first(alloc: Global, first: usize, view: &View) -> Result<usize, NoMemory>
+    ensures { IfOk result (λ next. next ≡ first + length (leaves (view_tree view.now))) }
+{
+    let count = leaves(alloc, view)?.len();
+    first.checked_add(count).ok_or(AllocError)
+}
+
 /// What a writer does in its event after so many: its next edit, or after the last one its leave.
+#[tactic(auto, using(crate::proofs::Seeing::nothing_more))]
 fn write_next(
     port: &mut Plain,
     caller: u32,
     edits: &[(usize, Edit)],
     done: usize,
 ) -> Result<(), NoMemory>
-    requires { AreOpenTo port.old caller edits.now done }
-    ensures { OnOk result (port.new.sources ≡ written caller edits.now done port.old.sources) }
+    requires open_to { AreOpenTo port.old caller edits.now done }
+    requires sound { IsSoundPort (known port.old) }
+    ensures written { OnOk result (port.new.sources ≡ written caller edits.now done port.old.sources) }
+    ensures more { HasSeenMore (known port.old) (known port.new) }
 {
     if done < edits.len() {
         let (source, edit) = edit_at(edits, done);
@@ -234,9 +265,12 @@ fn edit_at(edits: &[(usize, Edit)], place: usize) -> &(usize, Edit)
 }
 
 /// Makes an edit of a source.
+#[tactic(auto, using(crate::proofs::Seeing::nothing_more))]
 fn edit_source(port: &mut Plain, source: usize, caller: u32, edit: &Edit) -> Result<(), NoMemory>
-    requires { IsOpenTo port.old caller (source, edit.now) }
-    ensures { OnOk result (port.new.sources ≡ with_edit source caller edit.now port.old.sources) }
+    requires open_to { IsOpenTo port.old caller (source, edit.now) }
+    requires sound { IsSoundPort (known port.old) }
+    ensures edited { OnOk result (port.new.sources ≡ with_edit source caller edit.now port.old.sources) }
+    ensures more { HasSeenMore (known port.old) (known port.new) }
 {
     match port.edit(source, caller, edit) {
         Ok(_) => Ok(()),

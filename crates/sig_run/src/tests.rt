@@ -45,7 +45,7 @@ fn run<R: Threads + Wait + Sync>(
 }
 
 /// Scripts, the status of each, and the text that is written.
-const PLAYS: [(&str, u8, &str); 15] = [
+const PLAYS: [(&str, u8, &str); 23] = [
     (SCRIPT, 0, REPORT),
     (STILL, 0, STILL_REPORT),
     (PASSED, 0, PASSED_REPORT),
@@ -73,6 +73,44 @@ const PLAYS: [(&str, u8, &str); 15] = [
         0,
         "source a vector [1, 5]\n1 w update 0 4 -> was 1\n2 w update 1 6 -> was 5\n3 w update 0 2 -> was 4\n4 w update 0 1 -> was 2\n5 w leave -> ok\nfinal [1, 6]\nview v vector\nat 0: replace [5]\nat 1: insert 0 4\nat 2: update 1 6\nat 3: remove 0\nat 4: moved\nat 5: moved\nat 5: ended\nfinal [6]\n",
     ),
+    // A sum, a dedupe, a cell, a length and a map.
+    (
+        r#"{"version": 1, "sources": [{"name": "a", "vector": [9223372036854775807, 1]}], "writers": [{"name": "w", "edits": [{"on": "a", "remove": 0}]}], "views": [{"name": "v", "signal": {"sum": {"vector": "a"}}}], "schedule": ["v", "w", "v"]}"#,
+        0,
+        "source a vector [9223372036854775807, 1]\n1 w remove 0 -> was 9223372036854775807\n2 w leave -> ok\nfinal [1]\nview v signal\nat 0: value 9223372036854775807\nat 1: value 1\nat 2: moved\nat 2: ended\nfinal 1\n",
+    ),
+    (
+        r#"{"version": 1, "sources": [{"name": "c", "cell": 4}], "writers": [{"name": "w", "edits": [{"on": "c", "set": 4}, {"on": "c", "set": 5}, {"on": "c", "set": 6}]}], "views": [{"name": "d", "signal": {"dedupe": {"cell": "c"}}}], "schedule": ["d", "w", "d", "w", "w", "d"]}"#,
+        0,
+        "source c cell 4\n1 w set 4 -> was 4\n2 w set 5 -> was 4\n3 w set 6 -> was 5\n4 w leave -> ok\nfinal 6\nview d signal\nat 0: value 4\nat 1: moved\nat 3: value 6\nat 4: moved\nat 4: ended\nfinal 6\n",
+    ),
+    (
+        r#"{"version": 1, "sources": [{"name": "c", "cell": 7}], "writers": [{"name": "w", "edits": [{"on": "c", "set_neq": 7}, {"on": "c", "add": -8}]}], "views": [{"name": "v", "signal": {"cell": "c"}}], "schedule": ["v", "w", "v", "w", "v"]}"#,
+        0,
+        "source c cell 7\n1 w set_neq 7 -> same\n2 w add -8 -> was 7\n3 w leave -> ok\nfinal -1\nview v signal\nat 0: value 7\nat 1: moved\nat 2: value -1\nat 3: moved\nat 3: ended\nfinal -1\n",
+    ),
+    (
+        r#"{"version": 1, "sources": [{"name": "a", "vector": [4]}], "writers": [{"name": "w", "edits": [{"on": "a", "push": 5}, {"on": "a", "update": [0, 9]}, {"on": "a", "clear": true}]}], "views": [{"name": "v", "signal": {"len": {"vector": "a"}}}], "schedule": ["v", "w", "v", "w", "v", "w", "v"]}"#,
+        0,
+        "source a vector [4]\n1 w push 5 -> ok\n2 w update 0 9 -> was 4\n3 w clear -> ok\n4 w leave -> ok\nfinal []\nview v signal\nat 0: value 1\nat 1: value 2\nat 2: moved\nat 3: value 0\nat 4: moved\nat 4: ended\nfinal 0\n",
+    ),
+    (
+        r#"{"version": 1, "sources": [{"name": "m", "map": [[1, 10]]}], "writers": [{"name": "w", "edits": [{"on": "m", "put": [2, 5]}, {"on": "m", "put": [2, 5]}, {"on": "m", "delete": 9}]}], "views": [{"name": "mm", "map": {"map": "m"}}], "schedule": ["mm", "w", "mm", "w", "mm", "w", "mm"]}"#,
+        0,
+        "source m map {1: 10}\n1 w put 2 5 -> ok\n2 w put 2 5 -> was 5\n3 w delete 9 -> absent\n4 w leave -> ok\nfinal {1: 10, 2: 5}\nview mm map\nat 0: replace {1: 10}\nat 1: insert 2 5\nat 2: update 2 5\nat 3: moved\nat 4: moved\nat 4: ended\nfinal {1: 10, 2: 5}\n",
+    ),
+    // Maps under and over a filter, and a dedupe over a map.
+    (
+        r#"{"version": 1, "sources": [{"name": "a", "vector": [1, 5]}, {"name": "c", "cell": 5}], "writers": [{"name": "w", "edits": [{"on": "a", "push": 3}, {"on": "c", "set": 11}]}], "views": [{"name": "v", "vector": {"map": {"mul": 2}, "of": {"filter": {"ge": 3}, "of": {"map": {"add": 1}, "of": {"vector": "a"}}}}}, {"name": "s", "signal": {"dedupe": {"map": {"rem": 3}, "of": {"cell": "c"}}}}], "schedule": ["v", "s", "w", "v", "w", "s"]}"#,
+        0,
+        "source a vector [1, 5]\n1 w push 3 -> ok\n2 w leave -> ok\nfinal [1, 5, 3]\nsource c cell 5\n1 w set 11 -> was 5\n2 w leave -> ok\nfinal 11\nview v vector\nat 0: replace [12]\nat 1: push 8\nat 2: moved\nat 2: ended\nfinal [12, 8]\nview s signal\nat 0: value 2\nat 1: moved\nat 2: moved\nat 2: ended\nfinal 2\n",
+    ),
+    // Views of each kind that is built, each on a source of its own or another's.
+    (
+        r#"{"version": 1, "sources": [{"name": "a", "vector": [1, 2]}, {"name": "c", "cell": 4}, {"name": "m", "map": [[1, 10]]}], "writers": [{"name": "w", "edits": [{"on": "a", "push": 3}, {"on": "c", "set": 4}, {"on": "m", "put": [2, 7]}, {"on": "m", "delete": 1}]}], "views": [{"name": "p", "vector": {"map": {"mul": 10}, "of": {"filter": {"not": "even"}, "of": {"vector": "a"}}}}, {"name": "d", "signal": {"dedupe": {"cell": "c"}}}, {"name": "k", "map": {"map": "m"}}, {"name": "n", "signal": {"len": {"vector": "a"}}}], "schedule": ["p", "d", "k", "n", "w", "w", "w", "p", "d", "k", "n", "w", "k"]}"#,
+        0,
+        "source a vector [1, 2]\n1 w push 3 -> ok\n2 w leave -> ok\nfinal [1, 2, 3]\nsource c cell 4\n1 w set 4 -> was 4\n2 w leave -> ok\nfinal 4\nsource m map {1: 10}\n1 w put 2 7 -> ok\n2 w delete 1 -> was 10\n3 w leave -> ok\nfinal {2: 7}\nview p vector\nat 0: replace [10]\nat 1: push 30\nat 2: moved\nat 2: ended\nfinal [10, 30]\nview d signal\nat 0: value 4\nat 1: moved\nat 2: moved\nat 2: ended\nfinal 4\nview k map\nat 0: replace {1: 10}\nat 1: insert 2 7\nat 2: remove 1\nat 3: moved\nat 3: ended\nfinal {2: 7}\nview n signal\nat 0: value 2\nat 1: value 3\nat 2: moved\nat 2: ended\nfinal 3\n",
+    ),
     // The refusals by their numbers.
     ("{", 4, "script 1\n"),
     (
@@ -96,9 +134,14 @@ const PLAYS: [(&str, u8, &str); 15] = [
         "script 6 3\n",
     ),
     (
-        r#"{"version": 1, "sources": [{"name": "a", "vector": [9223372036854775807, 1]}], "writers": [{"name": "w", "edits": [{"on": "a", "remove": 0}]}], "views": [{"name": "v", "signal": {"sum": {"vector": "a"}}}], "schedule": ["v", "w", "v"]}"#,
+        r#"{"version": 1, "sources": [{"name": "a", "vector": [1]}], "writers": [], "views": [{"name": "v", "signal": {"sum": {"sorted": "neg", "of": {"vector": "a"}}}}]}"#,
         4,
-        "script 8 /views/0/signal\n",
+        "script 8 /views/0/signal/sum\n",
+    ),
+    (
+        r#"{"version": 1, "sources": [{"name": "m", "map": []}], "writers": [], "views": [{"name": "v", "entries": {"map": "m"}}]}"#,
+        4,
+        "script 8 /views/0\n",
     ),
     (
         r#"{"version": 1, "sources": [{"name": "a", "vector": [1]}, {"name": "c", "cell": 1}], "shares": [{"name": "s", "start": 0, "signal": {"cell": "c"}}], "writers": [{"name": "w", "edits": [{"on": "a", "remove": 0}]}], "views": [{"name": "v", "signal": {"sum": {"vector": "a"}}}], "schedule": ["v", "w", "v"]}"#,

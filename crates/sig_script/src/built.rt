@@ -1,12 +1,12 @@
 ghost use Rattle.std.specs.Prelude.{◌≡◌};
-ghost use Rattle.sig_expr.specs.Shapes.{vec_tree};
-ghost use Rattle.sig_script.specs.Built.{unbuilt, unbuilt_list, unbuilt_view, unbuilt_views};
+ghost use Rattle.sig_expr.specs.Shapes.{map_tree, sig_tree, vec_tree};
+ghost use Rattle.sig_script.specs.Built.{unbuilt, unbuilt_list, unbuilt_map, unbuilt_signal, unbuilt_view, unbuilt_views};
 ghost use Rattle.sig_script.specs.Finding.{Finds};
 ghost use Rattle.sig_script.specs.Paths.{here_unless};
 
 use crate::paths::{Stop, below, below_place, here_unless};
 use crate::types::{Script, ViewDef};
-use sig_expr::{VecExpr, View};
+use sig_expr::{MapExpr, SigExpr, VecExpr, View};
 use std::alloc::Global;
 
 /// Where a script asks for what isn't built yet.
@@ -37,20 +37,41 @@ fn unbuilt_view(alloc: Global, view: &View) -> Result<(), Stop>
     ensures { Finds result (unbuilt_view view.now) }
 {
     match view {
-        View::Signal(_) => below(alloc, "signal", here_unless(alloc, false)),
-        View::Vector(list) => below(alloc, "vector", here_unless(alloc, is_built(list))),
-        View::Map(_) => below(alloc, "map", here_unless(alloc, false)),
+        View::Signal(signal) => below(alloc, "signal", unbuilt_signal(alloc, signal)),
+        View::Vector(list) => below(alloc, "vector", unbuilt_list(alloc, list)),
+        View::Map(map) => below(alloc, "map", here_unless(alloc, is_source(map))),
         View::Entries(_) | View::Enumerate(_) => here_unless(alloc, false),
     }
 }
 
-/// Whether a list is built: a vector, or a filter of a vector.
-fn is_built(list: &VecExpr) -> bool
-    ensures { here_unless result ≡ unbuilt_list (vec_tree list.now) }
+fn unbuilt_signal(alloc: Global, signal: &SigExpr) -> Result<(), Stop>
+    ensures { Finds result (unbuilt_signal (sig_tree signal.now)) }
+{
+    match signal {
+        SigExpr::Cell(_) => Ok(()),
+        SigExpr::Map(_, of) => below(alloc, "of", unbuilt_signal(alloc, of.get())),
+        SigExpr::Dedupe(of) => below(alloc, "dedupe", unbuilt_signal(alloc, of.get())),
+        SigExpr::Len(of) => below(alloc, "len", unbuilt_list(alloc, of.get())),
+        SigExpr::Sum(of) => below(alloc, "sum", unbuilt_list(alloc, of.get())),
+        SigExpr::Switch(..) | SigExpr::Key(..) => here_unless(alloc, false),
+    }
+}
+
+fn unbuilt_list(alloc: Global, list: &VecExpr) -> Result<(), Stop>
+    ensures { Finds result (unbuilt_list (vec_tree list.now)) }
 {
     match list {
-        VecExpr::Vector(_) => true,
-        VecExpr::Filter(_, of) => matches!(of.get(), VecExpr::Vector(_)),
-        _ => false,
+        VecExpr::Vector(_) => Ok(()),
+        VecExpr::Map(_, of) | VecExpr::Filter(_, of) => {
+            below(alloc, "of", unbuilt_list(alloc, of.get()))
+        }
+        _ => here_unless(alloc, false),
     }
+}
+
+/// Whether a map is a source, and no other is built.
+fn is_source(map: &MapExpr) -> bool
+    ensures { here_unless result ≡ unbuilt_map (map_tree map.now) }
+{
+    matches!(map, MapExpr::Map(_))
 }

@@ -36,6 +36,7 @@ pub use objects::{kind_name, view_kind_name};
 pub use planning::plans;
 pub use reader::read_script;
 pub use refusals::ScriptError;
+pub use rooms::caps;
 pub use types::{
     Edits, Event, Events, Script, ShareDef, ShareDefs, SourceDef, SourceDefs, ViewDef, ViewDefs,
     WriterDef, WriterDefs,

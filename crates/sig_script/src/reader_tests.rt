@@ -49,7 +49,7 @@ const CELL: &str = r#"[{"name":"c","cell":1},{"name":"a","vector":[]}]"#;
 const VIEW: &str = r#"[{"name":"f","vector":{"vector":"a"}}]"#;
 
 /// Sources, writers, views, and the number and path of the refusal.
-const REFUSED: [(&str, &str, &str, u32, &str); 39] = [
+const REFUSED: [(&str, &str, &str, u32, &str); 40] = [
     (
         r#"[{"name":"a","vector":[1.5]}]"#,
         "[]",
@@ -243,11 +243,18 @@ const REFUSED: [(&str, &str, &str, u32, &str); 39] = [
         "/views/0/vector/bank",
     ),
     (
+        CELL,
+        "[]",
+        r#"[{"name":"f","signal":{"dedupe":{"switch":{"cell":"c"},"bank":[{"cell":"c"}]}}}]"#,
+        8,
+        "/views/0/signal/dedupe",
+    ),
+    (
         VECTOR,
         "[]",
-        r#"[{"name":"f","signal":{"sum":{"vector":"a"}}}]"#,
+        r#"[{"name":"f","signal":{"sum":{"concat":[{"vector":"a"},{"vector":"a"}]}}}]"#,
         8,
-        "/views/0/signal",
+        "/views/0/signal/sum",
     ),
     (
         VECTOR,
@@ -261,7 +268,7 @@ const REFUSED: [(&str, &str, &str, u32, &str); 39] = [
         "[]",
         r#"[{"name":"f","vector":{"filter":"even","of":{"sorted":{"add":1},"of":{"vector":"a"}}}}]"#,
         8,
-        "/views/0/vector",
+        "/views/0/vector/of",
     ),
     (
         r#"[{"name":"a","vector":[]},{"name":"a","vector":[1.5]}]"#,

@@ -1,5 +1,5 @@
 -- What a view gives as its leaves go on along the histories of their sources.
-use Rattle.std.specs.Prelude.{ℕ, ◌+◌, ℤ, pos, List, [], ◌∷◌, ◌++◌, length, take, drop, filter, Option, None, Some, option_map, option_and_then}
+use Rattle.std.specs.Prelude.{ℕ, ◌+◌, ℤ, pos, List, [], ◌∷◌, ◌++◌, length, take, drop, Option, None, Some, option_map, option_and_then}
 use Rattle.std.specs.List.{flat_map}
 use Rattle.sig_diff.specs.Differences.{applied}
 use Rattle.sig_diff.specs.Numbers.{clamped, total}
@@ -12,7 +12,7 @@ use Rattle.sig_diff.specs.declared.map_differences.MapDiff.TheVariants as change
 use Rattle.sig_expr.specs.Functions.{image, passes}
 use Rattle.sig_expr.specs.Scratch.{list_of, value_of}
 use Rattle.sig_expr.specs.Shows.{shows}
-use Rattle.sig_expr.specs.Trees.{MapTree, map_source, mapped_values, SigTree, cell, mapped_signal, deduped, switched, length_of, total_of, at_key, VecTree, vector, mapped, filtered, filtered_by, mapped_by, sorted, joined, flattened, picked, keys_in, values_in, ViewTree, signal_view, vector_view, map_view, entries_view, tagged_view}
+use Rattle.sig_expr.specs.Trees.{MapTree, map_source, SigTree, cell, mapped_signal, deduped, length_of, total_of, VecTree, vector, mapped, filtered, ViewTree, signal_view, vector_view, map_view, entries_view, tagged_view}
 use Rattle.sig_expr.specs.declared.shown.Shown.{Shown}
 use Rattle.sig_expr.specs.declared.shown.Shown.TheVariants as shown
 use Rattle.sig_hist.specs.Entering.{list_entering, map_entering, number_entering}

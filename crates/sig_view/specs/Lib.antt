@@ -1,2 +1,13 @@
 pub mod Flow
 pub mod SoundRows
+pub mod Built
+pub mod Longest
+pub mod Walking
+pub mod Nodes
+pub mod Starting
+pub mod Fetching
+pub mod Tasks
+pub mod Polling
+pub mod Waiting
+pub mod GoingOn
+pub mod FirstPolls

@@ -1,5 +1,5 @@
 -- Sound and complete rows: what the rows of a view say is true of the histories of its leaves' sources.
-use Rattle.std.specs.Prelude.{◌≡◌, ◌≢◌, ℕ, ◌<◌, ◌≤◌, ◌==◌, pos, List, [], ◌∷◌, length, map, get_or, slice_index, Bool, true, false, unwrap_or}
+use Rattle.std.specs.Prelude.{◌≡◌, ◌≢◌, ℕ, ◌≤◌, ◌==◌, pos, List, [], ◌∷◌, length, map, get_or, slice_index, Bool, true, false, unwrap_or}
 use Rattle.std.specs.List.{list_any}
 use Rattle.sig_diff.specs.Replaying.{AreLawful, MapAreLawful, replayed, map_replayed}
 use Rattle.sig_diff.specs.declared.contents.Content.{Content}
@@ -68,6 +68,16 @@ shown_after shown _ = shown
 abbrev pub without_tags : Shown → Shown
 without_tags (Tags elements) = Vector (map (λ (element : Tagged). element.value) elements)
 without_tags shown = shown
+
+-- whether elements have tags in what is shown, and in what a view shows
+abbrev pub has_tags : Shown → Bool
+has_tags (Tags elements) = true
+has_tags shown = false
+
+-- what is shown is what the view shows of these contents
+pub record IsShownBy {L : Type 0} (view : ViewTree L) (contents : L → Content) (shown : Shown) : Type 0 where
+  pub kind : has_tags shown ≡ has_tags (nothing_shown view)
+  pub shows : without_tags shown ≡ shows view contents
 
 -- a body is of the kind that is shown, and each of its differences is lawful at its turn
 abbrev pub IsLawfulBody : Shown → Body → Type 0

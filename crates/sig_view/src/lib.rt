@@ -1,6 +1,16 @@
-//! Views: what the polls of one give.
+//! Views that are polled over a port: what each poll gives, when it waits, and when the view ends.
 #![tactic(auto)]
 
+mod fetching;
+mod lists;
+mod nodes;
 mod rows;
+mod signals;
+mod starting;
+mod task;
+mod views;
+mod waiting;
+mod walk;
 
 pub use rows::{Body, Positions, Row, Rows};
+pub use task::{Polled, ViewTask};

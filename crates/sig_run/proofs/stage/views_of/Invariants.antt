@@ -1,12 +1,13 @@
-use Rattle.std.proofs.Common.{◌≡◌, map, take, drop, All, None}
-use Rattle.sig_expr.specs.Shapes.{view_tree}
-use Rattle.sig_run.specs.Watching.{IsFresh, tree_of}
+use Rattle.std.proofs.Common.{◌≡◌, length, take, drop, None}
+use Rattle.sig_expr.specs.Bounds.{cap_of}
+use Rattle.sig_run.specs.Stages.{AreFresh, leaf_sources}
 use Rattle.sig_run.proofs.stage.views_of.Given as goal
 use Rattle.sig_script.specs.Built.{unbuilt_views}
-use Rattle.sig_script.specs.declared.types.ViewDef.{ViewDef}
+use Rattle.sig_script.specs.Sizes.{views_size}
 
 abbrev pub invariant-views : goal.invariant-views
 invariant-views l =
     (unbuilt_views l.def-index (drop l.def-index l.defs) ≡ None)
-    × (map tree_of l.views.items ≡ map (λ (def : ViewDef). view_tree def.view) (take l.def-index l.defs))
-    × All IsFresh l.views.items
+    × (views_size (cap_of l.caps) l.def-index (drop l.def-index l.defs) ≡ None)
+    × (l.first ≡ length (leaf_sources (take l.def-index l.defs)))
+    × AreFresh l.caps 0 (take l.def-index l.defs) l.views.items

@@ -4,7 +4,7 @@ use Rattle.sig_run.proofs.Reported.{all_show, sources_are, views_reports_are}
 use Rattle.sig_run.proofs.stage.Stage.report.Goals as goal
 
 pub view_reports-requires : goal.view_reports-requires
-view_reports-requires c = all_show c.args.self.port.sources (all_views c.args.script.now) c.args.self.views.items c.requires.views
+view_reports-requires c = all_show c.args.self.port (all_views c.args.script.now) c.args.self.views.items c.requires.views
 
 pub returns-clause-report : goal.returns-clause-report
 returns-clause-report c =

@@ -9,8 +9,8 @@ use Rattle.sig_run.proofs.Writing.{may_write}
 use Rattle.sig_run.specs.Stages.{played_of}
 use Rattle.sig_run.proofs.stage.Stage.write.Goals as goal
 
-pub write_next-requires : goal.write_next-requires
-write_next-requires c =
+pub write_next-requires-clause-open_to : goal.write_next-requires-clause-open_to
+write_next-requires-clause-open_to c =
     let stage = c.args.self.now in
     let within : c.args.writer < length stage.done.items = rw c.requires.step.play.done c.requires.writer in
     let done : c.index-done.result.now ≡ get_or stage.done.items c.args.writer 0 = c.index-done.ensures ∙ get_or_default stage.done.items c.args.writer _ 0 within in
@@ -24,7 +24,7 @@ returns-clause-played c =
     let counts : slice_set stage.done.items c.args.writer c.in_ok-next.next ≡ (by_writer c.args.script.now c.args.writer (played_of stage)).done =
     ap (slice_set stage.done.items c.args.writer) (c.in_ok-next.ensures ∙ ap (λ (count : ℕ). count + 1) done) in
     let sources : c.write_next.new.port.sources ≡ (by_writer c.args.script.now c.args.writer (played_of stage)).sources =
-    rw (c.in_ok-caller.ensures, c.edits_of.ensures, done) at c.in_ok-write_next.ensures in
+    rw (c.in_ok-caller.ensures, c.edits_of.ensures, done) at c.in_ok-write_next.ensures.written in
     λ i. record (played_of stage) { done = counts i; sources = sources i }
 
 pub returns-clause-step : goal.returns-clause-step
@@ -38,5 +38,6 @@ returns-clause-step c =
     record {
       playable = step.playable;
       play = later.play;
-      views = views_later c.args.self.now.port.sources c.write_next.new.port.sources (all_views script) c.args.self.now.views.items (later.play.sources ∙ sym step.play.sources) later.grows step.views;
+      sound = c.in_ok-write_next.ensures.more.sound;
+      views = views_later c.args.self.now.port c.write_next.new.port c.in_ok-write_next.ensures.more (all_views script) c.args.self.now.views.items step.views;
     }

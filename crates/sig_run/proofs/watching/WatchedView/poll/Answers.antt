@@ -1,33 +1,49 @@
-use Rattle.std.proofs.Common.{◌≡◌, ◌∙◌, length, true, false, sym}
+use Rattle.std.proofs.Common.{◌≡◌, ◌∷◌, ◌++◌, [], ◌∙◌, sym, subst}
 use Rattle.std.proofs.lemmas.Result.{on_ok_weaker}
-use Rattle.sig_hist.specs.Histories.{is_closed}
-use Rattle.sig_hist.specs.OneThread.{source_at}
-use Rattle.sig_hist.specs.Sources.{writers_of}
-use Rattle.sig_run.proofs.Polling.{IsPolled, ends, moves}
-use Rattle.sig_run.specs.Watching.{gone_on, is_at, with_row_at}
+use Rattle.sig_hist.specs.OneThread.{known}
+use Rattle.sig_hist.specs.declared.plain.Free.{Free}
+use Rattle.sig_run.proofs.Polling.{IsPolled, batch_can, batch_polled, ended_polled, pending_polled}
 use Rattle.sig_run.proofs.watching.WatchedView.poll.Goals as goal
-use Rattle.sig_view.specs.SoundRows.{are_complete}
+use Rattle.sig_view.specs.Polling.{IsPoll}
+use Rattle.sig_view.specs.SoundRows.{shown_after}
+use Rattle.sig_view.specs.Tasks.{positions_of}
 use Rattle.sig_view.specs.declared.rows.Body.TheVariants.{Ended}
+use Rattle.sig_view.specs.declared.task.Polled.{Polled}
 
-moved : (c : goal.After-go_on) → c.go_on.new.self ≡ gone_on c.source-source.result.now c.args.self.now → IsPolled c.args.port.now.sources c.args.self.now c.go_on.new.self
-moved c is =
-    let view = c.args.self.now in
-    let source = source_at c.args.port.now view.source in
-    let incomplete : are_complete view.rows ≡ false = sym (rw c.as_slice.ensures at c.are_complete.ensures) ∙ c.if-are_complete.false in
-    let away : is_at view.position (length source.history) ≡ false = sym (rw (c.count-count.ensures, c.source-source.ensures) at c.is_at.ensures) ∙ c.if-not-is_at.true in
-    rw (is, c.source-source.ensures) (moves c.args.port.now.sources view c.requires.following incomplete away)
+pub push_row-requires : goal.push_row-requires
+push_row-requires c =
+    let poll = subst (λ (given : Polled Free). IsPoll (known c.args.port.now) (known c.poll.new.port) c.args.self.now.task c.poll.new.self _ given) c.in-Batch.is c.poll.ensures.poll in
+    batch_can c.args.port.now c.poll.new.port c.args.self.now c.poll.new.self _ c.requires c.poll.ensures.same (sym c.is_ended.ensures ∙ c.if-is_ended.false) c.in-Batch.row c.in-Batch.told c.in-Batch.held poll
 
-pub returns-then-not-is_at-clause-following : goal.returns-then-not-is_at-clause-following
-returns-then-not-is_at-clause-following c = on_ok_weaker _ (λ is. (moved c is).following) c.go_on.ensures
+batch : (c : goal.After-push_row) → c.push_row.new.self ≡ record { task = c.poll.new.self; rows = c.args.self.now.rows ++ c.in-Batch.row ∷ []; shown = shown_after c.args.self.now.shown c.in-Batch.row.body } → IsPolled c.args.port.now c.poll.new.port c.args.self.now c.push_row.new.self
+batch c is =
+    let poll = subst (λ (given : Polled Free). IsPoll (known c.args.port.now) (known c.poll.new.port) c.args.self.now.task c.poll.new.self _ given) c.in-Batch.is c.poll.ensures.poll in
+    rw is (batch_polled c.args.port.now c.poll.new.port c.args.self.now c.poll.new.self _ c.requires c.poll.ensures.same (sym c.is_ended.ensures ∙ c.if-is_ended.false) c.in-Batch.row c.in-Batch.told c.in-Batch.held poll)
 
-ended : (c : goal.After-push_row) → c.push_row.new.self ≡ with_row_at c.count-count.result Ended c.args.self.now → IsPolled c.args.port.now.sources c.args.self.now c.push_row.new.self
+pub returns-in-Batch-clause-polled : goal.returns-in-Batch-clause-polled
+returns-in-Batch-clause-polled c = on_ok_weaker _ (λ is. (batch c is).polled) c.push_row.ensures
+
+pub returns-in-Batch-clause-following : goal.returns-in-Batch-clause-following
+returns-in-Batch-clause-following c = on_ok_weaker _ (λ is. (batch c is).following) c.push_row.ensures
+
+pending : (c : goal.In-Pending) → IsPolled c.args.port.now c.poll.new.port c.args.self.now (record { task = c.poll.new.self; rows = c.args.self.now.rows; shown = c.args.self.now.shown })
+pending c =
+    let poll = subst (λ (given : Polled Free). IsPoll (known c.args.port.now) (known c.poll.new.port) c.args.self.now.task c.poll.new.self _ given) c.in-Pending.is c.poll.ensures.poll in
+    pending_polled c.args.port.now c.poll.new.port c.args.self.now c.poll.new.self _ c.requires c.poll.ensures.same (sym c.is_ended.ensures ∙ c.if-is_ended.false) poll
+
+pub returns-in-Pending-clause-polled : goal.returns-in-Pending-clause-polled
+returns-in-Pending-clause-polled c = (pending c).polled
+
+pub returns-in-Pending-clause-following : goal.returns-in-Pending-clause-following
+returns-in-Pending-clause-following c = (pending c).following
+
+ended : (c : goal.After-push_end) → c.push_end.new.self ≡ record { task = c.poll.new.self; rows = c.args.self.now.rows ++ record { at = positions_of c.poll.new.self; body = Ended } ∷ []; shown = c.args.self.now.shown } → IsPolled c.args.port.now c.poll.new.port c.args.self.now c.push_end.new.self
 ended c is =
-    let view = c.args.self.now in
-    let source = source_at c.args.port.now view.source in
-    let incomplete : are_complete view.rows ≡ false = sym (rw c.as_slice.ensures at c.are_complete.ensures) ∙ c.if-are_complete.false in
-    let still : is_at view.position (length source.history) ≡ true = sym (rw (c.count-count.ensures, c.source-source.ensures) at c.is_at.ensures) ∙ c.if-not-is_at.false in
-    let closed : is_closed (writers_of source.plan.allow) source.history ≡ true = sym (rw c.source-source.ensures at c.is_closed.ensures) ∙ c.if-is_closed.true in
-    rw (is, c.count-count.ensures, c.source-source.ensures) (ends c.args.port.now.sources view c.requires.following incomplete still closed)
+    let poll = subst (λ (given : Polled Free). IsPoll (known c.args.port.now) (known c.poll.new.port) c.args.self.now.task c.poll.new.self _ given) c.in-Ended.is c.poll.ensures.poll in
+    rw is (ended_polled c.args.port.now c.poll.new.port c.args.self.now c.poll.new.self _ c.requires c.poll.ensures.same (sym c.is_ended.ensures ∙ c.if-is_ended.false) poll)
 
-pub returns-then-is_closed-clause-following : goal.returns-then-is_closed-clause-following
-returns-then-is_closed-clause-following c = on_ok_weaker _ (λ is. (ended c is).following) c.push_row.ensures
+pub returns-in-Ended-clause-polled : goal.returns-in-Ended-clause-polled
+returns-in-Ended-clause-polled c = on_ok_weaker _ (λ is. (ended c is).polled) c.push_end.ensures
+
+pub returns-in-Ended-clause-following : goal.returns-in-Ended-clause-following
+returns-in-Ended-clause-following c = on_ok_weaker _ (λ is. (ended c is).following) c.push_end.ensures

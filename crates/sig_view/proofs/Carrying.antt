@@ -1,0 +1,65 @@
+-- What a list gives on the way that a walk took its leaf leads from what it was to what it is.
+use Rattle.std.proofs.Common.{◌≡◌, ℕ, zero, suc, ◌≤◌, ℤ, List, [], ◌∷◌, length, slice_index, refl, ap, arith}
+use Rattle.sig_diff.specs.declared.differences.VecDiff.{VecDiff}
+use Rattle.sig_expr.specs.Scratch.{list_of}
+use Rattle.sig_diff.specs.Replaying.{AreLawful, replayed}
+use Rattle.sig_expr.specs.Functions.{passes}
+use Rattle.sig_expr.specs.Trees.{filtered}
+use Rattle.sig_expr.specs.declared.functions.Pred.{Pred}
+use Rattle.sig_ops.specs.Filters.{Filter}
+use Rattle.sig_ops.specs.Tables.{filter_gives}
+use Rattle.sig_hist.specs.Ports.{PortState}
+use Rattle.sig_view.proofs.Staying.{same_contents}
+use Rattle.sig_view.proofs.Turning.{Leads, flow_leads}
+use Rattle.sig_view.specs.Built.{IsListBuilt}
+use Rattle.sig_view.specs.Flow.{list_flow, through}
+use Rattle.sig_view.specs.Nodes.{ListOps, ListStands, images, kept, list_tree, source}
+use Rattle.sig_view.specs.SoundRows.{GoOn, contents_at, ways}
+use Rattle.sig_view.specs.Walking.{CanWalk, HasGone, Progress, seen_sources, sources_in}
+
+ahead : (from to : List ℕ) → GoOn from to → (leaf : ℕ) → slice_index from leaf ≤ slice_index to leaf
+ahead [] [] goes leaf = omega arith
+ahead (old ∷ from) (new ∷ to) goes zero = goes.0
+ahead (old ∷ from) (new ∷ to) goes (suc leaf) = ahead from to goes.1 leaf
+ahead [] (new ∷ to) goes leaf = absurd goes
+ahead (old ∷ from) [] goes leaf = absurd goes
+
+pub list_is_built : (ops : ListOps) → IsListBuilt (list_tree ops)
+list_is_built (source leaf) = tt
+list_is_built (images fun ops) = list_is_built ops
+list_is_built (kept filter ops) = list_is_built ops
+
+module _ (s t : PortState) (old new : Progress) (can : CanWalk s old) (gone : HasGone s t old new) where
+  -- the sources are those of the leaves that set out
+  pub same_sources : sources_in t new ≡ seen_sources t old.first (length old.positions)
+  same_sources = rw (gone.first, gone.leaves) refl
+
+  -- the leaves held then what they held at the same positions
+  pub held_before : contents_at (sources_in t new) old.positions ≡ contents_at (sources_in s old) old.positions
+  held_before = rw same_sources (same_contents s t gone.looked old.first (length old.positions) old.positions can.within)
+
+  module _ (goes_on : GoOn old.positions new.positions) where
+    pub never_back : (leaf : ℕ) → slice_index old.positions leaf ≤ slice_index new.positions leaf
+    never_back = ahead old.positions new.positions goes_on
+
+    pub carries : (ops : ListOps) → Leads (list_of (contents_at (sources_in s old) old.positions) (list_tree ops)) (list_flow (ways (sources_in t new) old.positions new.positions) (list_tree ops)) (list_of (contents_at (sources_in t new) new.positions) (list_tree ops))
+    carries ops = rw (← held_before) (flow_leads (ways (sources_in t new) old.positions new.positions) never_back (list_tree ops) (list_is_built ops))
+
+    -- the list below a filter has stepped: before and after that it had these operators
+    module _ (below after : ListOps) (diffs : List (VecDiff ℤ)) (flow : diffs ≡ list_flow (ways (sources_in t new) old.positions new.positions) (list_tree below))
+        (stands : ListStands (contents_at (sources_in t new) new.positions) after) (same : list_tree after ≡ list_tree below)
+        (filter : Filter Pred ℤ) (stood : ListStands (contents_at (sources_in s old) old.positions) (kept filter below)) where
+      below_leads : Leads filter.items diffs (list_of (contents_at (sources_in t new) new.positions) (list_tree below))
+      below_leads = rw (flow, stood.0) (carries below)
+
+      pub filter_lawful : AreLawful filter.items diffs
+      filter_lawful = below_leads.lawful
+
+      pub filter_flow : through (filter_gives (passes filter.tester)) filter.items diffs ≡ list_flow (ways (sources_in t new) old.positions new.positions) (list_tree (kept filter below))
+      filter_flow = rw (flow, stood.0, ← held_before) refl
+
+      pub filter_stands : (next : Filter Pred ℤ) → next ≡ record filter { items = replayed filter.items diffs } → ListStands (contents_at (sources_in t new) new.positions) (kept next after)
+      filter_stands next is = rw is (rw same below_leads.replay, stands)
+
+      pub filter_tree : (next : Filter Pred ℤ) → next ≡ record filter { items = replayed filter.items diffs } → list_tree (kept next after) ≡ list_tree (kept filter below)
+      filter_tree next is = rw is (ap (filtered filter.tester) same)

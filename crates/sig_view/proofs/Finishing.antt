@@ -1,0 +1,314 @@
+-- Polls after the first row: one walk, or two with a look between them, and the answer.
+use Rattle.std.proofs.Common.{◌≡◌, ◌∙◌, ℕ, ◌+◌, ◌<◌, ◌≤◌, List, [], ◌∷◌, length, take, drop, get_or, slice_index, Bool, true, false, Option, None, Some, refl, sym, ap, arith, le_trans}
+use Rattle.std.proofs.lemmas.List.{append-nil, take-append-drop}
+use Rattle.std.proofs.lemmas.Option.{get_or_from_slice_get, slice_get_within}
+use Rattle.sig_expr.specs.Leaves.{leaves}
+use Rattle.sig_hist.specs.Ports.{GoesOn, IsSoundPort, PortState}
+use Rattle.sig_hist.specs.Sources.{is_among}
+use Rattle.sig_hist.specs.declared.ports.Met.{Met}
+use Rattle.sig_view.proofs.Leaving.{polled_again, polled_by_looks, polled_not, polled_of}
+use Rattle.sig_view.proofs.Listening.{not_closed, open_within, same_sources}
+use Rattle.sig_view.proofs.Staying.{seen_no_less}
+use Rattle.sig_view.proofs.Stepping.{KeepsPort, among_all, awaited_is, before_is, moved_on, next_row, ready_again, underway}
+use Rattle.sig_view.specs.GoingOn.{HasGoneOn, HasLost, HasStepped, IsBehind}
+use Rattle.sig_view.specs.Polling.{HasPolled, HasStayed, IsAtEnd, IsAtRest, IsLaterRow, IsNext, IsPoll, IsSameTask}
+use Rattle.sig_view.specs.SoundRows.{IsNextRow, IsShownBy, contents_at, is_awaited}
+use Rattle.sig_view.specs.Tasks.{IsReady, IsTask, contents_of, is_following, positions_of, sources_of, view_of}
+use Rattle.sig_view.specs.Waiting.{CanWait, HasListened, HasNews, HasRested, IsLast, IsLastOpen, is_open_leaf, is_open_mark}
+use Rattle.sig_view.specs.Walking.{IsCaughtUp, IsFresh, first_word, is_seen_closed, mark_of, met_since, was_held}
+use Rattle.sig_view.specs.declared.rows.Body.{Body}
+use Rattle.sig_view.specs.declared.rows.Row.{Row}
+use Rattle.sig_view.specs.declared.task.Going.TheVariants.{Answered, Nowhere}
+use Rattle.sig_view.specs.declared.task.Polled.{Polled}
+use Rattle.sig_view.specs.declared.task.Polled.TheVariants as polled
+use Rattle.sig_view.specs.declared.task.Stage.TheVariants.{Ended}
+use Rattle.sig_view.specs.declared.task.ViewTask.{ViewTask}
+use Rattle.sig_view.specs.declared.walk.Mark.TheVariants.{Skipped}
+
+-- ---- between the walks of a poll
+
+-- no leaf has gone on and no word was met since the poll began
+pub record HasPaused (s t : PortState) (old mid : ViewTask) : Type 0 where
+  pub polled : HasPolled s t old.walk false
+  pub same : IsSameTask old mid
+  pub stays : positions_of mid ≡ positions_of old
+  pub met : t.met ≡ s.met
+  pub contents : contents_of t mid ≡ contents_of s old
+
+pub paused_not : (s : PortState) (task : ViewTask) → HasPaused s s task task
+paused_not s task = record { polled = polled_not s task.walk; same = record { view = refl; caps = refl; first = refl }; stays = refl; met = refl; contents = refl }
+
+same_task : (old mid new : ViewTask) → IsSameTask old mid → IsSameTask mid new → IsSameTask old new
+same_task old mid new first second = record { view = second.view ∙ first.view; caps = second.caps ∙ first.caps; first = second.first ∙ first.first }
+
+no_word : (met : List Met) → None ≡ first_word met → met ≡ []
+no_word [] is = refl
+no_word (met ∷ more) is = cc
+
+-- where none was met the words are those of before
+same_met : (s t : PortState) → take (length s.met) t.met ≡ s.met → None ≡ first_word (met_since s t) → t.met ≡ s.met
+same_met s t kept none = let nothing : met_since s t ≡ [] = no_word (met_since s t) none in sym (take-append-drop (length s.met) t.met) ∙ rw (kept, nothing) (append-nil s.met)
+
+-- a leaf that is fresh as of a later moment is so as of an earlier one, where no word was met between them
+pub fresh_since : (s t u : PortState) (task : ViewTask) (leaf : ℕ) → t.met ≡ s.met → t.source ≡ s.source → ((source : ℕ) → GoesOn s source (t.seen source) (t.count source)) → IsFresh t u task.walk leaf → IsFresh s u task.walk leaf
+fresh_since s t u task leaf met source seen fresh held =
+    let at : ℕ = task.walk.first + leaf in
+    let held_later : was_held t u at ≡ false = rw met held in
+    let later : length (t.seen (s.source at)) ≤ slice_index task.walk.positions leaf = rw source at (fresh held_later) in
+    le_trans (seen_no_less s (s.source at) (t.seen (s.source at)) (t.count (s.source at)) (seen (s.source at))) later
+
+-- ---- what the port is after a poll, and how the task goes on
+
+-- a task in the stage after the first row goes on in it
+going_on : {T : Type 0} (old new : ViewTask) (word : ℕ) (told : T) → is_following old ≡ true → is_following new ≡ true → IsNext old new (polled.Again word told)
+going_on old new word told follows still =
+    let was = underway old.stage follows in
+    let is = underway new.stage still in
+    record { refused = sym was.no_failure; failed = rw (is.no_failure, was.no_failure) refl; ended = is.no_end; row = rw (is.rows, was.rows) refl }
+
+batch_goes_on : {T : Type 0} (old new : ViewTask) (row : Row) (held : Option ℕ) (told : T) → is_following old ≡ true → is_following new ≡ true → IsNext old new (polled.Batch row told held)
+batch_goes_on old new row held told follows still =
+    let was = underway old.stage follows in
+    let is = underway new.stage still in
+    record { refused = sym was.no_failure; failed = rw (is.no_failure, was.no_failure) refl; ended = is.no_end; row = rw (is.rows, was.rows) refl }
+
+module _ (s t u : PortState) (old mid new : ViewTask) (follows : is_following old ≡ true) (paused : HasPaused s t old mid) (ready : IsReady t mid) where
+  same_view : view_of mid ≡ view_of old
+  same_view = rw paused.same.view refl
+
+  polled_on : HasPolled t u mid.walk false → HasPolled s u old.walk false
+  polled_on polled = polled_again s t u old.walk false paused.polled (polled_of t u mid.walk old.walk false (sym paused.same.first) (sym (ap length paused.stays)) polled)
+
+  lost_is : {T : Type 0} (told : T) → HasLost t u mid new → IsPoll s u old new told polled.NoMemory
+  lost_is told lost =
+      let was = underway old.stage follows in
+      record {
+        ready = lost.ready;
+        same = same_task old mid new paused.same lost.same;
+        polled = polled_on (polled_by_looks t u mid.walk lost.looked);
+        next = record { refused = sym was.no_failure; failed = rw was.no_failure lost.failed; ended = lost.goes_on; row = rw was.rows lost.row };
+        answer_is = tt;
+      }
+
+  module _ (body : Body) (stepped : HasStepped t u mid new body) where
+    fresh_each : (leaf : ℕ) → is_awaited (view_of new) (sources_of u new) (positions_of new) leaf ≡ true → IsFresh s u new.walk leaf
+    fresh_each leaf awaited =
+        let among_new : is_among leaf (leaves (view_of new)) ≡ true = sym (awaited_is new stepped.ready.is_task (sources_of u new) (positions_of new) leaf) ∙ awaited in
+        let among : is_among leaf (leaves (view_of mid)) ≡ true = rw stepped.same.view at among_new in
+        fresh_since s t u new leaf paused.met paused.polled.source paused.polled.seen (stepped.walked.fresh leaf among)
+
+    word_is : new.walk.held ≡ first_word (met_since s u)
+    word_is = stepped.walked.held ∙ ap (λ (met : List Met). first_word (drop (length met) u.met)) paused.met
+
+    later_row : (row : Row) → row.body ≡ body → row.at ≡ positions_of new → new.walk.moved ≡ true → IsLaterRow s u old new row
+    later_row row same_body at moved = record {
+      sound = λ shown shows_it.
+          let shown_there : IsShownBy (view_of mid) (contents_of t mid) shown = rw (same_view, paused.contents) shows_it in
+          let next : IsNextRow (view_of mid) (sources_of u new) (positions_of mid) shown (positions_of new) body = next_row t u mid new body ready stepped shown moved shown_there in
+          rw (at, same_body) (rw (same_view, paused.stays) at next);
+      fresh = fresh_each;
+    }
+
+    batch_is : {T : Type 0} (told token : T) (row : Row) (held : Option ℕ) → row.body ≡ body → new.walk.moved ≡ true → row.at ≡ positions_of new → token ≡ told → held ≡ new.walk.held → IsPoll s u old new told (polled.Batch row token held)
+    batch_is told token row held same_body moved at same_token is_held = record {
+      ready = stepped.ready;
+      same = same_task old mid new paused.same stepped.same;
+      polled = polled_on (polled_by_looks t u mid.walk stepped.looked);
+      next = batch_goes_on old new row held token follows stepped.follows;
+      answer_is = record {
+        at = at;
+        sound = rw (underway old.stage follows).rows (later_row row same_body at moved);
+        same_token = same_token;
+        first_held = is_held ∙ word_is;
+      };
+    }
+
+    has_stayed : new.walk.moved ≡ false → HasStayed s u old new
+    has_stayed still = record {
+      row = (underway old.stage follows).rows;
+      stays = (stepped.walked.stays still).1 ∙ paused.stays;
+      fresh = fresh_each;
+    }
+
+    again_is : {T : Type 0} (told token : T) (word : ℕ) → new.walk.moved ≡ false → new.walk.held ≡ Some word → token ≡ told → IsPoll s u old new told (polled.Again word token)
+    again_is told token word still is_held same_token = record {
+      ready = stepped.ready;
+      same = same_task old mid new paused.same stepped.same;
+      polled = polled_on (polled_by_looks t u mid.walk stepped.looked);
+      next = going_on old new word token follows stepped.follows;
+      answer_is = record {
+        held_up = rw (underway old.stage follows).rows (has_stayed still);
+        same_token = same_token;
+        first_held = sym is_held ∙ word_is;
+      };
+    }
+
+  -- a walk that answers ends the poll
+  pub finished : {T : Type 0} (told : T) (answer : Polled T) → HasGoneOn t u mid new told (Answered answer) → IsPoll s u old new told answer
+  finished told polled.NoMemory gone = lost_is told gone
+  finished told (polled.Batch row token held) gone =
+      let row_is : row ≡ record { at = positions_of new; body = row.body } = gone.1.2 in
+      batch_is row.body gone.0 told token row held refl gone.1.1 (ap (λ (row : Row). row.at) row_is) gone.1.3 gone.1.4
+  finished told (polled.Again word token) gone = again_is gone.0 gone.1 told token word gone.2.1 gone.2.2 gone.2.3
+  finished told polled.Pending gone = absurd gone.2
+  finished told polled.Ended gone = absurd gone.2
+  finished told polled.Failed gone = absurd gone.2
+
+  -- the token has come back before
+  pub finished_again : {T : Type 0} (told token : T) (answer : Polled T) → token ≡ told → HasGoneOn t u mid new token (Answered answer) → IsPoll s u old new told answer
+  finished_again told token answer same gone = rw (← same) (finished token answer gone)
+
+-- ---- waits
+
+-- what a wait leaves as it was
+module _ (t u : PortState) (mid : ViewTask) (rests : Bool) (listened : HasListened t u mid.walk rests) where
+  same_leaves : sources_of u mid ≡ sources_of t mid
+  same_leaves = same_sources t u mid.walk.first (length (positions_of mid)) listened.polled.plan listened.polled.source listened.seen
+
+  same_closed : (leaf : ℕ) → is_seen_closed u leaf ≡ is_seen_closed t leaf
+  same_closed leaf = rw (listened.polled.plan, listened.polled.source, listened.seen) refl
+
+  pub still_ready : IsReady t mid → IsSoundPort u → IsReady u mid
+  still_ready ready sound =
+      let keeps : KeepsPort t u = record { is_own = listened.polled.is_own; source = listened.polled.source; task = listened.polled.task; plan = listened.polled.plan } in
+      ready_again t u mid mid.walk mid.stage ready keeps refl refl
+      (record { sound = sound; numbers = ready.can.numbers; own = λ leaf within. rw listened.polled.is_own (ready.can.own leaf within); within = rw same_leaves ready.can.within; marks = ready.can.marks })
+      (rw same_leaves ready.holds)
+
+-- a walk that found nothing
+pub record HasFoundNothing (s t : PortState) (old mid : ViewTask) : Type 0 where
+  pub body : Body
+  pub stepped : HasStepped s t old mid body
+  pub still : mid.walk.moved ≡ false
+  pub silent : mid.walk.held ≡ None
+
+pub found_nothing : {T : Type 0} (s t : PortState) (old mid : ViewTask) (told token : T) → HasGoneOn s t old mid told (Nowhere token) → HasFoundNothing s t old mid
+found_nothing s t old mid told token gone = record { body = gone.0; stepped = gone.1; still = gone.2.1; silent = gone.2.2 }
+
+module _ (s t : PortState) (old mid : ViewTask) (follows : is_following old ≡ true) (ready : IsReady s old) (nothing : HasFoundNothing s t old mid) where
+  stepped : HasStepped s t old mid nothing.body
+  stepped = nothing.stepped
+
+  is_task : IsTask mid
+  is_task = stepped.ready.is_task
+
+  stays : positions_of mid ≡ positions_of old
+  stays = (stepped.walked.stays nothing.still).1
+
+  caught_up : (leaf : ℕ) → is_among leaf (leaves (view_of mid)) ≡ true → IsCaughtUp t mid.walk leaf
+  caught_up leaf among = stepped.walked.caught_up nothing.still nothing.silent leaf (rw stepped.same.view at among)
+
+  within_positions : (leaf : ℕ) → is_open_leaf mid.walk leaf ≡ true → leaf < length (positions_of mid)
+  within_positions leaf opens = omega (arith, open_within mid.walk.marks leaf opens, stepped.ready.can.marks)
+
+  pub can_wait : CanWait t mid.walk
+  can_wait = record {
+    can = stepped.ready.can;
+    one_task = λ leaf within. stepped.ready.port.one_task leaf (omega (arith, is_task.leaf_each));
+    caught_up = λ leaf opens. caught_up leaf (among_all mid is_task leaf (within_positions leaf opens));
+  }
+
+  polled_for : (u : PortState) (rests : Bool) → HasPolled t u mid.walk rests → HasPolled s u old.walk rests
+  polled_for u rests polled = polled_again s t u old.walk rests (polled_by_looks s t old.walk stepped.looked) (polled_of t u mid.walk old.walk rests (sym stepped.same.first) (sym (ap length stays)) polled)
+
+  -- the poll looks again
+  pub paused : (u : PortState) → HasNews t u mid.walk → HasPaused s u old mid
+  paused u news =
+      let listened = news.listened in
+      let sources : sources_of u mid ≡ sources_of t mid = same_leaves t u mid false listened in
+      let contents : contents_of t mid ≡ contents_of s old = ap (contents_at (sources_of t mid)) stays ∙ before_is s t old mid nothing.body ready stepped in
+      record {
+        polled = polled_for u false listened.polled;
+        same = stepped.same;
+        stays = stays;
+        met = listened.met ∙ same_met s t stepped.looked.met (sym nothing.silent ∙ stepped.walked.held);
+        contents = rw sources contents;
+      }
+
+  among_awaited : (u : PortState) (new : ViewTask) (leaf : ℕ) → view_of new ≡ view_of mid → is_awaited (view_of new) (sources_of u new) (positions_of new) leaf ≡ true → is_among leaf (leaves (view_of mid)) ≡ true
+  among_awaited u new leaf same awaited =
+      let awaited_there : is_awaited (view_of mid) (sources_of u new) (positions_of new) leaf ≡ true = rw same at awaited in
+      sym (awaited_is mid is_task (sources_of u new) (positions_of new) leaf) ∙ awaited_there
+
+  fresh_there : (leaf : ℕ) → is_among leaf (leaves (view_of mid)) ≡ true → IsFresh s t mid.walk leaf
+  fresh_there leaf among = stepped.walked.fresh leaf (rw stepped.same.view at among)
+
+  -- no leaf can go on
+  closed_when : (leaf : ℕ) (closed : Bool) → is_open_mark (mark_of closed) ≡ false → closed ≡ true
+  closed_when leaf true shut = refl
+  closed_when leaf false shut = cc
+
+  at_end : (leaf : ℕ) → IsLastOpen mid.walk (length mid.walk.marks) None → is_among leaf (leaves (view_of mid)) ≡ true → IsAtEnd s t old (moved_on mid mid.walk Ended) leaf
+  at_end leaf none among =
+      let caught : IsCaughtUp t mid.walk leaf = caught_up leaf among in
+      let mark : get_or mid.walk.marks leaf Skipped ≡ mark_of (is_seen_closed t (mid.walk.first + leaf)) = get_or_from_slice_get mid.walk.marks leaf _ Skipped caught.mark in
+      let shut : is_open_leaf mid.walk leaf ≡ false = none leaf (slice_get_within mid.walk.marks leaf _ caught.mark) in
+      record { position = caught.position; closed = closed_when leaf _ (sym (ap is_open_mark mark) ∙ shut) }
+
+  pub ends : {T : Type 0} (told : T) → IsLastOpen mid.walk (length mid.walk.marks) None → IsPoll s t old (moved_on mid mid.walk Ended) told polled.Ended
+  ends told none =
+      let was = underway old.stage follows in
+      let new : ViewTask = moved_on mid mid.walk Ended in
+      let keeps : KeepsPort t t = record { is_own = refl; source = refl; task = refl; plan = refl } in
+      record {
+        ready = ready_again t t mid mid.walk Ended stepped.ready keeps refl refl stepped.ready.can tt;
+        same = record { view = stepped.same.view; caps = stepped.same.caps; first = stepped.same.first };
+        polled = polled_by_looks s t old.walk stepped.looked;
+        next = record { refused = sym was.no_failure; failed = rw was.no_failure refl; ended = refl; row = rw was.rows refl };
+        answer_is = record {
+          stayed = record { row = was.rows; stays = stays; fresh = λ leaf awaited. fresh_there leaf (among_awaited t new leaf refl awaited) };
+          ended = λ leaf awaited. at_end leaf none (among_awaited t new leaf refl awaited);
+        };
+      }
+
+  module _ (u : PortState) (last : ℕ) (is_last : IsLast mid.walk (length mid.walk.marks) last) (rested : HasRested t u mid.walk) where
+    listened : HasListened t u mid.walk true
+    listened = rested.listened
+
+    closed_later : (leaf : ℕ) → is_seen_closed u leaf ≡ is_seen_closed t leaf
+    closed_later leaf = same_closed t u mid true listened leaf
+
+    opens_when : (leaf : ℕ) → is_among leaf (leaves (view_of mid)) ≡ true → is_seen_closed u (mid.walk.first + leaf) ≡ false → is_open_leaf mid.walk leaf ≡ true
+    opens_when leaf among opens =
+        let mark : get_or mid.walk.marks leaf Skipped ≡ mark_of (is_seen_closed t (mid.walk.first + leaf)) = get_or_from_slice_get mid.walk.marks leaf _ Skipped (caught_up leaf among).mark in
+        ap is_open_mark (mark ∙ ap mark_of (sym (closed_later (mid.walk.first + leaf)) ∙ opens))
+
+    at_rest_by : (leaf : ℕ) (closed : Bool) → is_among leaf (leaves (view_of mid)) ≡ true → is_seen_closed u (mid.walk.first + leaf) ≡ closed → IsAtRest s u old mid closed leaf
+    at_rest_by leaf true among closed = record { position = rw (listened.polled.source, listened.seen) (caught_up leaf among).position; closed = closed }
+    at_rest_by leaf false among closed =
+        let opens : is_open_leaf mid.walk leaf ≡ true = opens_when leaf among closed in
+        record { condition = rested.waits leaf opens; armed = rw stepped.looked.arms at (rested.armed_each leaf opens) }
+
+    fresh_later : (leaf : ℕ) → is_among leaf (leaves (view_of mid)) ≡ true → IsFresh s u mid.walk leaf
+    fresh_later leaf among held = fresh_there leaf among (rw (listened.met, listened.polled.source) at held)
+
+    pub waits : {T : Type 0} (told : T) → IsSoundPort u → IsPoll s u old mid told polled.Pending
+    waits told sound =
+        let was = underway old.stage follows in
+        let is = underway mid.stage stepped.follows in
+        let within : last < length (positions_of mid) = within_positions last is_last.opens in
+        let among : is_among last (leaves (view_of mid)) ≡ true = among_all mid is_task last within in
+        record {
+          ready = still_ready t u mid true listened stepped.ready sound;
+          same = stepped.same;
+          polled = polled_for u true listened.polled;
+          next = record { refused = sym was.no_failure; failed = rw (is.no_failure, was.no_failure) refl; ended = is.no_end; row = rw (is.rows, was.rows) refl };
+          answer_is = record {
+            stayed = record { row = was.rows; stays = stays; fresh = λ leaf awaited. fresh_later leaf (among_awaited u mid leaf refl awaited) };
+            rests = λ leaf awaited. at_rest_by leaf _ (among_awaited u mid leaf refl awaited) refl;
+            some = (last, awaited_is mid is_task (sources_of u mid) (positions_of mid) last ∙ among, closed_later (mid.walk.first + last) ∙ not_closed t mid.walk last (caught_up last among) is_last.opens);
+          };
+        }
+
+-- what a source has shown a later walk finds
+pub finds_more : (s t : PortState) (old mid : ViewTask) → IsReady s old → IsBehind s old → HasFoundNothing s t old mid → ⊥
+finds_more s t old mid ready behind nothing =
+    let stepped = nothing.stepped in
+    let walked = stepped.walked in
+    let leaf : ℕ = behind.leaf in
+    let at : ℕ = old.walk.first + leaf in
+    let among : is_among leaf (leaves (view_of old)) ≡ true = among_all old ready.is_task leaf behind.within in
+    let caught : IsCaughtUp t mid.walk leaf = walked.caught_up nothing.still nothing.silent leaf among in
+    let position : slice_index (positions_of old) leaf ≡ length (t.seen (s.source at)) = rw ((walked.stays nothing.still).1, stepped.same.first, stepped.looked.source) at caught.position in
+    let count : t.count (s.source at) ≡ length (t.seen (s.source at)) = rw (stepped.same.first, stepped.looked.source) at caught.count in
+    omega (arith, behind.more, (stepped.looked.seen (s.source at)).known, position, count)

@@ -1,0 +1,177 @@
+-- What a view gives as its leaves go on leads from what it shows before to what it shows after.
+use Rattle.std.proofs.Common.{◌≡◌, ◌≢◌, ◌∙◌, ℕ, ◌≤◌, ℤ, pos, List, [], ◌∷◌, ◌++◌, length, filter_map, cond, Bool, true, false, not, Option, None, Some, option_map, option_and_then, refl, sym, ap}
+use Rattle.std.specs.Option.{option_map_or, option_to_list, unwrap_or}
+use Rattle.std.specs.Ordering.{int_eq}
+use Rattle.std.proofs.lemmas.Bool.Decides.{Decides-int_eq}
+use Rattle.sig_diff.specs.Contents.{entries_in, kind_of, number_in}
+use Rattle.sig_diff.specs.Entries.{has_key}
+use Rattle.sig_diff.specs.MapDifferences.{MapIsLawful, map_applied}
+use Rattle.sig_diff.specs.Numbers.{clamped, total}
+use Rattle.sig_diff.specs.Replaying.{MapAreLawful, map_replayed}
+use Rattle.sig_diff.specs.declared.contents.Content.{Content}
+use Rattle.sig_diff.specs.declared.contents.Content.TheVariants.{Cell, Vector, Map}
+use Rattle.sig_diff.specs.declared.contents.Kind.{Kind}
+use Rattle.sig_diff.specs.declared.map_differences.MapDiff.{MapDiff}
+use Rattle.sig_diff.specs.declared.map_differences.MapDiff.TheVariants as changed
+use Rattle.sig_expr.specs.Functions.{image}
+use Rattle.sig_expr.specs.Scratch.{entries_of, list_of, value_of}
+use Rattle.sig_expr.specs.Shows.{shows}
+use Rattle.sig_expr.specs.Trees.{MapTree, map_source, SigTree, cell, mapped_signal, deduped, length_of, total_of, ViewTree, signal_view, vector_view, map_view, entries_view, tagged_view}
+use Rattle.sig_expr.specs.declared.shown.Shown.{Shown}
+use Rattle.sig_expr.specs.declared.shown.Shown.TheVariants as shown
+use Rattle.sig_hist.proofs.Telling.{kind_state}
+use Rattle.sig_hist.specs.Changes.{Change, after, change_of, put_change}
+use Rattle.sig_hist.specs.Entering.{as_map, as_number, is_far, latest, map_entering, number_entering}
+use Rattle.sig_hist.specs.Histories.{changes_by, state}
+use Rattle.sig_hist.specs.declared.edits.Edit.{Edit}
+use Rattle.sig_hist.specs.declared.edits.Edit.TheVariants.{Put, Delete, Load, Wipe}
+use Rattle.sig_hist.specs.declared.edits.Entry.{Entry}
+use Rattle.sig_ops.specs.Signals.{given}
+use Rattle.sig_view.proofs.Turning.{behind_is, flow_leads}
+use Rattle.sig_view.specs.Built.{IsBuilt, IsMapBuilt, IsSignalBuilt}
+use Rattle.sig_view.specs.Flow.{Way, before, flow, map_flow, new, old, passed, value_flow}
+use Rattle.sig_view.specs.SoundRows.{IsLawfulBody, IsShownBy, shown_after, without_tags}
+
+-- ---- maps
+
+-- differences lead from one map to another: each is lawful at its turn, and their replay is the other
+pub record MapLeads (from : List (ℤ × ℤ)) (diffs : List (MapDiff ℤ)) (to : List (ℤ × ℤ)) : Type 0 where
+  pub lawful : MapAreLawful from diffs
+  pub replay : map_replayed from diffs ≡ to
+
+abbrev LeadOn : ℕ → List Entry → Type 0
+LeadOn cap entries = (pairs : List (ℤ × ℤ)) → MapLeads pairs (filter_map as_map (changes_by (Map pairs) cap entries)) (entries_in (state (Map pairs) cap entries))
+
+-- a map takes what its edits change
+abbrev IsTaken : List (ℤ × ℤ) → Option Change → Type 0
+IsTaken pairs None = Unit {0}
+IsTaken pairs (Some (Change.map diff)) = MapIsLawful diff pairs
+IsTaken pairs (Some change) = ⊥
+
+put_taken : (pairs : List (ℤ × ℤ)) (key value : ℤ) (has room : Bool) → has_key key pairs ≡ has → IsTaken pairs (put_change has room key value)
+put_taken pairs key value true room is = is
+put_taken pairs key value false true is = ap not is
+put_taken pairs key value false false is = tt
+
+delete_taken : (pairs : List (ℤ × ℤ)) (key : ℤ) (has : Bool) → has_key key pairs ≡ has → IsTaken pairs (cond has (Some (Change.map (changed.Remove key))) None)
+delete_taken pairs key true is = is
+delete_taken pairs key false is = tt
+
+load_taken : (pairs others : List (ℤ × ℤ)) (long : Bool) → IsTaken pairs (cond long None (Some (Change.map (changed.Replace others))))
+load_taken pairs others true = tt
+load_taken pairs others false = refl
+
+edit_taken : (pairs : List (ℤ × ℤ)) (cap : ℕ) (edit : Edit) → IsTaken pairs (change_of (Map pairs) cap edit)
+edit_taken pairs cap (Put key value) = put_taken pairs key value (has_key key pairs) _ refl
+edit_taken pairs cap (Delete key) = delete_taken pairs key (has_key key pairs) refl
+edit_taken pairs cap (Load others) = load_taken pairs others _
+edit_taken pairs cap Wipe = refl
+edit_taken pairs cap edit = tt
+
+change_leads : (pairs : List (ℤ × ℤ)) (cap : ℕ) (change : Option Change) (entries : List Entry) → IsTaken pairs change → LeadOn cap entries →
+    let next : Content = option_map_or (after (Map pairs)) change (Map pairs) in
+    MapLeads pairs (filter_map as_map (option_to_list change ++ changes_by next cap entries)) (entries_in (state next cap entries))
+change_leads pairs cap None entries taken later = later pairs
+change_leads pairs cap (Some (Change.map diff)) entries taken later =
+    let rest = later (map_applied pairs diff) in record { lawful = (taken, rest.lawful); replay = rest.replay }
+change_leads pairs cap (Some change) entries taken later = absurd taken
+
+changes_lead : (cap : ℕ) (entries : List Entry) → LeadOn cap entries
+changes_lead cap [] pairs = record { lawful = tt; replay = refl }
+changes_lead cap (entry ∷ entries) pairs = change_leads pairs cap (change_of (Map pairs) cap entry.edit) entries (edit_taken pairs cap entry.edit) (changes_lead cap entries)
+
+far_leads : (pairs : List (ℤ × ℤ)) (cap : ℕ) (entries : List Entry) (far : Bool) → let last : List (ℤ × ℤ) = entries_in (state (Map pairs) cap entries) in
+    MapLeads pairs (cond far (changed.Replace last ∷ []) (filter_map as_map (changes_by (Map pairs) cap entries))) last
+far_leads pairs cap entries true = record { lawful = (refl, tt); replay = refl }
+far_leads pairs cap entries false = changes_lead cap entries pairs
+
+no_map : (content : Content) (kind : Kind) → kind_of content ≡ kind → kind ≢ Kind.Map → MapLeads [] [] (entries_in content)
+no_map (Map pairs) kind is other = absurd (other (sym is))
+no_map (Cell x) kind is other = record { lawful = tt; replay = refl }
+no_map (Vector items) kind is other = record { lawful = tt; replay = refl }
+
+map_entering_leads : (content : Content) (cap : ℕ) (entries : List Entry) → MapLeads (entries_in content) (map_entering content cap entries) (entries_in (state content cap entries))
+map_entering_leads (Cell x) cap entries = no_map _ Kind.Cell (kind_state (Cell x) cap entries) (λ same. cc)
+map_entering_leads (Vector items) cap entries = no_map _ Kind.Vector (kind_state (Vector items) cap entries) (λ same. cc)
+map_entering_leads (Map pairs) cap entries = far_leads pairs cap entries (is_far entries)
+
+-- ---- signals
+
+-- a cell's number is the last that some entries give, where one of them gives any
+abbrev NumberLeads : ℕ → List Entry → Type 0
+NumberLeads cap entries = (x : ℤ) → number_in (state (Cell x) cap entries) ≡ unwrap_or (latest (filter_map as_number (changes_by (Cell x) cap entries)) (number_in (state (Cell x) cap entries))) x
+
+-- by what the later entries give
+later_number : (numbers : List ℤ) (last x y : ℤ) → last ≡ unwrap_or (latest numbers last) y → last ≡ unwrap_or (latest (y ∷ numbers) last) x
+later_number numbers last x y is = refl
+
+number_change : (x : ℤ) (cap : ℕ) (change : Option Change) (entries : List Entry) → NumberLeads cap entries →
+    let next : Content = option_map_or (after (Cell x)) change (Cell x) in
+    number_in (state next cap entries) ≡ unwrap_or (latest (filter_map as_number (option_to_list change ++ changes_by next cap entries)) (number_in (state next cap entries))) x
+number_change x cap None entries later = later x
+number_change x cap (Some (Change.number y)) entries later = refl
+number_change x cap (Some (Change.list diff)) entries later = later x
+number_change x cap (Some (Change.map diff)) entries later = later x
+
+numbers_lead : (cap : ℕ) (entries : List Entry) → NumberLeads cap entries
+numbers_lead cap [] x = refl
+numbers_lead cap (entry ∷ entries) x = number_change x cap (change_of (Cell x) cap entry.edit) entries (numbers_lead cap entries)
+
+no_number : (content : Content) (kind : Kind) → kind_of content ≡ kind → kind ≢ Kind.Cell → number_in content ≡ pos 0
+no_number (Cell x) kind is other = absurd (other (sym is))
+no_number (Vector items) kind is other = refl
+no_number (Map pairs) kind is other = refl
+
+number_entering_leads : (content : Content) (cap : ℕ) (entries : List Entry) → number_in (state content cap entries) ≡ unwrap_or (number_entering content cap entries) (number_in content)
+number_entering_leads (Cell x) cap entries = numbers_lead cap entries x
+number_entering_leads (Vector items) cap entries = no_number _ Kind.Vector (kind_state (Vector items) cap entries) (λ same. cc)
+number_entering_leads (Map pairs) cap entries = no_number _ Kind.Map (kind_state (Map pairs) cap entries) (λ same. cc)
+
+-- a signal gives its present value, where that isn't the last
+given_leads : (last present : ℤ) (same : Bool) → int_eq last present ≡ same → present ≡ unwrap_or (cond same None (Some present)) last
+given_leads last present true is = sym ((Decides-int_eq last present).0 is)
+given_leads last present false is = refl
+
+image_leads : (f : ℤ → ℤ) (value : Option ℤ) (last : ℤ) → f (unwrap_or value last) ≡ unwrap_or (option_map f value) (f last)
+image_leads f None last = refl
+image_leads f (Some x) last = refl
+
+dedupe_leads : (value : Option ℤ) (last : ℤ) → unwrap_or value last ≡ unwrap_or (option_and_then (given last) value) last
+dedupe_leads None last = refl
+dedupe_leads (Some x) last = given_leads last x (int_eq last x) refl
+
+-- ---- views
+
+module _ {L : Type 0} (way : L → Way) (ahead : (leaf : L) → (way leaf).from ≤ (way leaf).to) where
+  pub signal_leads : (e : SigTree L) → IsSignalBuilt e → value_of (new way) e ≡ unwrap_or (value_flow way e) (value_of (old way) e)
+  signal_leads (cell leaf) is = rw (behind_is (way leaf) (ahead leaf)) (number_entering_leads (before (way leaf)) (way leaf).source.plan.cap (passed (way leaf)))
+  signal_leads (mapped_signal f e) is = ap (image f) (signal_leads e is) ∙ image_leads (image f) (value_flow way e) (value_of (old way) e)
+  signal_leads (deduped e) is = signal_leads e is ∙ dedupe_leads (value_flow way e) (value_of (old way) e)
+  signal_leads (length_of e) is = given_leads (pos (length (list_of (old way) e))) (pos (length (list_of (new way) e))) _ refl
+  signal_leads (total_of e) is = given_leads (clamped (total (list_of (old way) e))) (clamped (total (list_of (new way) e))) _ refl
+  signal_leads _ is = absurd is
+
+  pub map_flow_leads : (m : MapTree L) → IsMapBuilt m → MapLeads (entries_of (old way) m) (map_flow way m) (entries_of (new way) m)
+  map_flow_leads (map_source leaf) is = rw (behind_is (way leaf) (ahead leaf)) (map_entering_leads (before (way leaf)) (way leaf).source.plan.cap (passed (way leaf)))
+  map_flow_leads _ is = absurd is
+
+  -- the body is lawful where the view's content before is shown, and the content after is shown then
+  pub record BodyLeads (view : ViewTree L) (seen : Shown) : Type 0 where
+    pub lawful : IsLawfulBody seen (flow way view)
+    pub replay : without_tags (shown_after seen (flow way view)) ≡ shows view (new way)
+
+  pub view_leads : (view : ViewTree L) (seen : Shown) → IsBuilt view → IsShownBy view (old way) seen → BodyLeads view seen
+  view_leads (signal_view e) (shown.Signal value) is shows_it =
+      let same : value ≡ value_of (old way) e = cc in
+      record { lawful = tt; replay = rw same (ap shown.Signal (sym (signal_leads e is))) }
+  view_leads (vector_view e) (shown.Vector items) is shows_it =
+      let same : items ≡ list_of (old way) e = cc in
+      let leads = flow_leads way ahead e is in
+      record { lawful = rw same leads.lawful; replay = rw same (ap shown.Vector leads.replay) }
+  view_leads (map_view m) (shown.Map pairs) is shows_it =
+      let same : pairs ≡ entries_of (old way) m = cc in
+      let leads = map_flow_leads m is in
+      record { lawful = rw same leads.lawful; replay = rw same (ap shown.Map leads.replay) }
+  view_leads (entries_view m) seen is shows_it = absurd is
+  view_leads (tagged_view e) seen is shows_it = absurd is
+  view_leads _ _ is shows_it = cc
