@@ -1,0 +1,6 @@
+//! The sorted view of a list.
+#![tactic(auto)]
+
+mod sorting;
+
+pub use sorting::SortedOp;
