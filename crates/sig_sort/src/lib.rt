@@ -2,5 +2,7 @@
 #![tactic(auto)]
 
 mod sorting;
+#[cfg(test)]
+mod tests;
 
 pub use sorting::SortedOp;
