@@ -8,3 +8,4 @@ pub mod Blocks
 pub mod Numbers
 pub mod Contents
 pub mod formers
+pub mod Choosing

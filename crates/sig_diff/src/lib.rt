@@ -4,6 +4,7 @@
 mod algebra;
 mod arithmetic;
 mod boxed;
+mod choosing;
 mod contents;
 mod copying;
 mod differences;
@@ -20,6 +21,7 @@ mod tests;
 pub use algebra::{apply, is_lawful};
 pub use arithmetic::{clamped, class_of};
 pub use boxed::Boxed;
+pub use choosing::{LetIn, RaisedBy, signal_for};
 pub use contents::{Content, Kind, Lists, Tagged};
 pub use copying::TryCopy;
 pub use differences::{Diffs, VecDiff};

@@ -11,7 +11,8 @@ use Rattle.sig_diff.proofs.Sorting.{length_in_order}
 use Rattle.sig_expr.specs.Functions.{image, passes}
 use Rattle.sig_expr.specs.Bounds.{map_bound, vec_bound, greatest_bound}
 use Rattle.sig_diff.specs.Contents.{list_in, entries_in}
-use Rattle.sig_expr.specs.Scratch.{is_let_in, raised_by, list_for, entries_of, list_of, signals_of, lists_of}
+use Rattle.sig_diff.specs.Choosing.{is_let_in, raised_by, list_for}
+use Rattle.sig_expr.specs.Scratch.{entries_of, list_of, signals_of, lists_of}
 use Rattle.sig_expr.specs.Trees.{MapTree, map_source, mapped_values, VecTree, vector, mapped, filtered, filtered_by, mapped_by, sorted, joined, flattened, picked, keys_in, values_in, VecTrees, no_lists, more_lists}
 use Rattle.sig_diff.proofs.Keeping.{length_values_mapped}
 

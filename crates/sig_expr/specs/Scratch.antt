@@ -1,33 +1,15 @@
 -- The view from scratch: what an expression shows, where each leaf has a content.
-use Rattle.std.specs.Prelude.{ℤ, pos, ◌+ℤ◌, Bool, not, List, [], ◌∷◌, ◌++◌, map, length, get_or}
+use Rattle.std.specs.Prelude.{ℤ, pos, List, [], ◌∷◌, ◌++◌, map, length}
 use Rattle.std.specs.List.{filter, flat_map}
 use Rattle.std.specs.Option.{unwrap_or}
-use Rattle.std.specs.Ordering.{int_eq}
+use Rattle.sig_diff.specs.Choosing.{signal_for, list_for, is_let_in, raised_by}
 use Rattle.sig_diff.specs.Entries.{value_at, keys_of, values_of, values_mapped}
-use Rattle.sig_diff.specs.Numbers.{class_of, clamped, total}
+use Rattle.sig_diff.specs.Numbers.{clamped, total}
 use Rattle.sig_diff.specs.Sorting.{by_key, in_order}
 use Rattle.sig_diff.specs.Contents.{number_in, list_in, entries_in}
 use Rattle.sig_diff.specs.declared.contents.Content.{Content}
 use Rattle.sig_expr.specs.Functions.{image, passes}
 use Rattle.sig_expr.specs.Trees.{MapTree, map_source, mapped_values, SigTree, cell, mapped_signal, deduped, switched, length_of, total_of, at_key, VecTree, vector, mapped, filtered, filtered_by, mapped_by, sorted, joined, flattened, picked, keys_in, values_in, SigTrees, no_signals, more_signals, VecTrees, no_lists, more_lists}
-
--- the part of a bank that a number chooses, by the number's class
-abbrev pub chosen : {A : Type 0} → List A → ℤ → A → A
-chosen parts x default = get_or parts (class_of (length parts) x) default
-
-abbrev pub signal_for : List ℤ → ℤ → ℤ
-signal_for signals x = chosen signals x (pos 0)
-
-abbrev pub list_for : List (List ℤ) → ℤ → List ℤ
-list_for lists x = chosen lists x []
-
--- whether the signal of the number's class isn't 0
-abbrev pub is_let_in : List ℤ → ℤ → Bool
-is_let_in signals x = not (int_eq (signal_for signals x) (pos 0))
-
--- the number plus the signal of its class
-abbrev pub raised_by : List ℤ → ℤ → ℤ
-raised_by signals x = clamped (x +ℤ signal_for signals x)
 
 module _ {L : Type 0} (s : L → Content) where
   abbrev pub entries_of : MapTree L → List (ℤ × ℤ)

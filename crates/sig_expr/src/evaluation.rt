@@ -3,14 +3,15 @@ ghost use Rattle.std.specs.List.{flat_map};
 ghost use Rattle.sig_diff.specs.Numbers.{clamped, total};
 ghost use Rattle.sig_expr.specs.Leaves.{sig_leaves, vec_leaves, sigs_leaves, vecs_leaves, leaves, number_map, number_sig, number_vec, number_sigs, number_vecs, numbered};
 ghost use Rattle.sig_diff.specs.Contents.{number_in, list_in, entries_in};
-ghost use Rattle.sig_expr.specs.Scratch.{signal_for, list_for, is_let_in, raised_by, entries_of, value_of, list_of, signals_of, lists_of};
+ghost use Rattle.sig_diff.specs.Choosing.{signal_for, list_for, is_let_in, raised_by};
+ghost use Rattle.sig_expr.specs.Scratch.{entries_of, value_of, list_of, signals_of, lists_of};
 ghost use Rattle.sig_expr.specs.Shapes.{map_tree, sig_tree, vec_tree, sig_trees, vec_trees, view_tree};
 ghost use Rattle.sig_expr.specs.Shows.{content_of, shows, DependsOnAwaited};
 
 use crate::expressions::{MapExpr, SigExpr, VecExpr, View};
 use crate::leaf_counts::{list_bank_leaves, list_leaves, signal_bank_leaves, signal_leaves};
 use crate::shown::Shown;
-use sig_diff::{Content, Entries, Items, Lists, Mapper, NoMemory, Tester};
+use sig_diff::{Content, Entries, Items, LetIn, Lists, Mapper, NoMemory, RaisedBy};
 use std::alloc::Global;
 
 /// The content of each leaf, in the order of the leaves.
@@ -67,53 +68,6 @@ fn entries_at(alloc: Global, contents: &[Content], leaf: usize) -> Result<Entrie
 }
 
 // ---- signals and lists that a number chooses
-
-/// The signal of the number's class, or 0 where there is none.
-fn signal_for(signals: &[i64], number: i64) -> i64
-    ensures { result ≡ signal_for signals.now number }
-{
-    if signals.is_empty() {
-        0
-    } else {
-        signals[sig_diff::class_of(number, signals.len())]
-    }
-}
-
-/// The test whether the signal of a number's class isn't 0.
-#[derive(Drop)]
-struct LetIn<'a> {
-    signals: &'a [i64],
-}
-
-impl<'a> Tester<i64> for LetIn<'a> {
-    ghost use Rattle.sig_expr.specs.Scratch.{is_let_in};
-
-    ghost can_call = { λ test. Unit {0} };
-
-    ghost passes = { λ test. is_let_in test.signals.now };
-
-    fn call(&self, number: i64) -> bool {
-        signal_for(self.signals, number) != 0
-    }
-}
-
-/// The number plus the signal of its class.
-#[derive(Drop)]
-struct RaisedBy<'a> {
-    signals: &'a [i64],
-}
-
-impl<'a> Mapper<i64, i64> for RaisedBy<'a> {
-    ghost use Rattle.sig_expr.specs.Scratch.{raised_by};
-
-    ghost can_call = { λ raise. Unit {0} };
-
-    ghost maps = { λ raise. raised_by raise.signals.now };
-
-    fn call(&self, number: i64) -> i64 {
-        number.saturating_add(signal_for(self.signals, number))
-    }
-}
 
 /// The numbers whose signal isn't 0.
 fn let_in(alloc: Global, signals: &[i64], numbers: &[i64]) -> Result<Items<i64>, NoMemory>

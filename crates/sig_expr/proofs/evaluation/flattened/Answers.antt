@@ -1,6 +1,6 @@
 use Rattle.std.proofs.Common.{rules, ◌≡◌, ◌∙◌, ℕ, zero, suc, ◌<◌, ℤ, pos, List, [], ◌∷◌, ◌++◌, length, drop, get_or, append_assoc, add-one, arith, w64, to_z, of_z}
 use Rattle.std.specs.List.{flat_map}
-use Rattle.sig_expr.specs.Scratch.{list_for}
+use Rattle.sig_diff.specs.Choosing.{list_for}
 use Rattle.sig_expr.proofs.evaluation.flattened.Goals as goal
 
 -- the next number's list, and then those of the numbers after it

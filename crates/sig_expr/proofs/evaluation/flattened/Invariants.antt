@@ -1,6 +1,6 @@
 use Rattle.std.proofs.Common.{◌≡◌, ◌++◌, drop}
 use Rattle.std.specs.List.{flat_map}
-use Rattle.sig_expr.specs.Scratch.{list_for}
+use Rattle.sig_diff.specs.Choosing.{list_for}
 use Rattle.sig_expr.proofs.evaluation.flattened.Given as goal
 
 abbrev pub invariant-numbers : goal.invariant-numbers
