@@ -1,3 +1,4 @@
 pub mod Places
 pub mod Sizing
 pub mod Totals
+pub mod TagIndexes

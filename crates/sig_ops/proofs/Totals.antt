@@ -1,7 +1,6 @@
--- Totals and fitting numbers as a list is edited, and that totals fit 128 bits.
-use Rattle.std.proofs.Common.{◌≡◌, ◌∙◌, ℕ, suc, pos, ◌+◌, ◌-◌, ◌*◌, ◌^◌, ◌<◌, ◌≤◌, ℤ, ◌+ℤ◌, List, [], ◌∷◌, length, take, drop, insert, remove, get_or, slice_set, sym, ap, arith}
+-- Totals as a list is edited, and that totals fit 128 bits.
+use Rattle.std.proofs.Common.{◌≡◌, ◌∙◌, ℕ, pos, ◌+◌, ◌-◌, ◌*◌, ◌^◌, ◌<◌, ◌≤◌, ℤ, ◌+ℤ◌, List, length, take, remove, get_or, slice_set, sym, ap, arith}
 use Rattle.std.proofs.lemmas.Int.{ints}
-use Rattle.std.proofs.lemmas.List.Elements.{All-append, All-cons, All-drop, All-get_or, All-take}
 use Rattle.std.proofs.lemmas.List.Sums.{fold_more}
 use Rattle.std.proofs.lemmas.Option.{slice_get-get_or}
 use Rattle.std.specs.Int.RustNames.{FitsSigned}
@@ -11,25 +10,6 @@ use Rattle.sig_diff.specs.Differences.{inserted, moved}
 use Rattle.sig_diff.specs.Numbers.{total}
 use Rattle.sig_diff.proofs.Filtered.{remove_last}
 use Rattle.sig_diff.proofs.Numbers.{total_insert, total_remove, total_slice_set, total_of_fitting, IsWithin}
-
--- ---- what holds of each item
-
-module _ {X : Type 0} (P : X → Type 0) where
-  all_insert : (xs : List X) (index : ℕ) (x : X) → P x → All P xs → All P (insert xs index x)
-  all_insert xs index x one all = All-append P (take index xs) (x ∷ drop index xs) (All-take P index xs all) (All-cons P x (drop index xs) one (All-drop P index xs all))
-
-  -- it holds of each item of the list with one less
-  pub all_remove : (xs : List X) (index : ℕ) → All P xs → All P (remove xs index)
-  all_remove xs index all = All-append P (take index xs) (drop (suc index) xs) (All-take P index xs all) (All-drop P (suc index) xs all)
-
-  -- and with one moved
-  pub all_moved : (xs : List X) (old_index new_index : ℕ) → old_index < length xs → All P xs → All P (moved xs old_index new_index)
-  all_moved [] old_index new_index within all = absurd (omega arith)
-  all_moved (x ∷ xs) old_index new_index within all =
-      rw (slice_get-get_or (x ∷ xs) old_index x within)
-      (all_insert (remove (x ∷ xs) old_index) new_index (get_or (x ∷ xs) old_index x) (All-get_or P (x ∷ xs) old_index x within all) (all_remove (x ∷ xs) old_index all))
-
--- ---- totals
 
 -- the total with the number at an index less
 pub total_remove_at : (xs : List ℤ) (index : ℕ) → index < length xs → total (remove xs index) +ℤ get_or xs index (pos 0) ≡ total xs

@@ -8,3 +8,8 @@ pub mod FilterTurns
 pub mod Filters
 pub mod Following
 pub mod FollowSteps
+pub mod Enumerating
+pub mod TagIndex
+pub mod EnumerateTurns
+pub mod TagPlaces
+pub mod Kept

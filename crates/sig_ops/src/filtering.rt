@@ -153,8 +153,8 @@ fn places<T: Copy, P: Tester<T>>(
     }
 }
 
-/// Adds what the filter gives for a difference of its list.
-fn filtered<T: Copy, P: Tester<T>>(
+/// Adds what a filter gives for a difference of its list.
+pub fn filtered<T: Copy, P: Tester<T>>(
     tester: &P,
     items: &[T],
     diff: &VecDiff<T>,

@@ -2,6 +2,7 @@
 #![tactic(auto)]
 
 mod called;
+mod enumerating;
 mod filtering;
 mod following;
 mod mapping;
@@ -13,8 +14,9 @@ mod signals;
 mod tests;
 
 pub use called::{Called, Named};
-pub use filtering::FilterOp;
+pub use enumerating::EnumerateOp;
+pub use filtering::{FilterOp, filtered};
 pub use following::follow;
-pub use mapping::MapOp;
+pub use mapping::{MapOp, image};
 pub use operators::VecOp;
 pub use signals::{Dedupe, LenOp, SumOp};

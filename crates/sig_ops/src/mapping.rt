@@ -82,7 +82,7 @@ impl<T: Copy + Eq, U: Copy + Eq, M: Mapper<T, U>> VecOp for MapOp<T, U, M> {
 }
 
 /// The same difference, with the function at its values.
-fn image<T: Copy, U: Copy, M: Mapper<T, U>>(
+pub fn image<T: Copy, U: Copy, M: Mapper<T, U>>(
     alloc: Global,
     mapper: &M,
     diff: &VecDiff<T>,

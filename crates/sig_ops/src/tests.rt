@@ -1,8 +1,8 @@
 ghost use Rattle.std.specs.Prelude.{◌≡◌, ◌≤◌, pos, [], ◌∷◌, length, IfOk};
 ghost use Rattle.sig_diff.specs.declared.differences.VecDiff.TheVariants.{Push, RemoveAt};
 
-use crate::{Called, FilterOp, MapOp, Named, VecOp, follow};
-use sig_diff::{Diffs, Items, Mapper, Tester, VecDiff};
+use crate::{Called, EnumerateOp, FilterOp, MapOp, Named, VecOp, follow};
+use sig_diff::{Diffs, Items, Mapper, Tagged, Tester, VecDiff};
 use std::alloc::Global;
 use std::test::Fail;
 
@@ -178,5 +178,58 @@ fn a_filter_calls_a_closure(rt: HostRuntime) -> Result<(), Fail> {
     let mut given = Items::new(alloc);
     op.step(&VecDiff::Pop, &mut given)?;
     assert!(rt; matches!(given.as_slice(), [VecDiff::Pop]));
+    Ok(())
+}
+
+#[test]
+fn an_element_keeps_its_tag(rt: HostRuntime) -> Result<(), Fail> {
+    let alloc = rt.alloc();
+    let mut op = EnumerateOp::new(alloc);
+    let shown = op.start(&list(alloc, &[4, 6])?)?;
+    assert!(rt;
+        matches!(
+            shown.as_slice(),
+            [Tagged { tag: 0, value: 4 }, Tagged { tag: 1, value: 6 }]
+        )
+    );
+    let mut given = Items::new(alloc);
+    op.step(&VecDiff::RemoveAt { index: 0 }, &mut given)?;
+    op.step(&VecDiff::UpdateAt { index: 0, value: 9 }, &mut given)?;
+    assert!(rt;
+        matches!(
+            given.as_slice(),
+            [
+                VecDiff::RemoveAt { index: 0 },
+                VecDiff::UpdateAt {
+                    index: 0,
+                    value: Tagged { tag: 1, value: 9 }
+                },
+            ]
+        )
+    );
+    assert!(rt; op.place_of(1) == Some(0));
+    assert!(rt; op.place_of(0).is_none());
+    Ok(())
+}
+
+#[test]
+fn a_list_with_tags_follows(rt: HostRuntime) -> Result<(), Fail> {
+    let alloc = rt.alloc();
+    let mut op = EnumerateOp::new(alloc);
+    op.start(&list(alloc, &[1, 5])?)?;
+    let mut given = Items::new(alloc);
+    follow(&mut op, &two_differences(alloc)?, &mut given)?;
+    assert!(rt;
+        matches!(
+            given.as_slice(),
+            [
+                VecDiff::Push {
+                    value: Tagged { tag: 2, value: 4 }
+                },
+                VecDiff::RemoveAt { index: 0 },
+            ]
+        )
+    );
+    assert!(rt; op.place_of(2) == Some(1));
     Ok(())
 }

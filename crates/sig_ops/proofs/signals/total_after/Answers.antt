@@ -2,7 +2,8 @@ use Rattle.std.proofs.Common.{rules, arith, ◌-◌, ◌<◌, length, pos, [], �
 use Rattle.std.proofs.lemmas.Bool.Decides.{nat_tests}
 use Rattle.std.proofs.lemmas.Int.{ints}
 use Rattle.sig_diff.proofs.Numbers.{total_append, total_insert}
-use Rattle.sig_ops.proofs.Totals.{all_moved, all_remove, total_moved, total_remove_at, total_set_at, total_take_last, total_within_79_bits}
+use Rattle.sig_ops.specs.Kept.{all_moved, all_remove}
+use Rattle.sig_ops.proofs.Totals.{total_moved, total_remove_at, total_set_at, total_take_last, total_within_79_bits}
 use Rattle.sig_ops.proofs.signals.total_after.Goals as goal
 
 pub overflow_add-result : goal.overflow_add-result
