@@ -120,20 +120,20 @@ module _ {L : Type 0} (s : L → Content) where
     vec_among (keys_in m) = among_itself (map_leaves m)
     vec_among (values_in m) = among_itself (map_leaves m)
 
-    sigs_among : (bank : SigTrees L) → IsAmong (all_of (each_sig_awaits s bank)) (sigs_leaves bank)
+    pub sigs_among : (bank : SigTrees L) → IsAmong (all_of (each_sig_awaits s bank)) (sigs_leaves bank)
     sigs_among no_signals = none
     sigs_among (more_signals e bank) = among_append (sig_among e) (sigs_among bank)
 
-    vecs_among : (bank : VecTrees L) → IsAmong (all_of (each_vec_awaits s bank)) (vecs_leaves bank)
+    pub vecs_among : (bank : VecTrees L) → IsAmong (all_of (each_vec_awaits s bank)) (vecs_leaves bank)
     vecs_among no_lists = none
     vecs_among (more_lists e bank) = among_append (vec_among e) (vecs_among bank)
 
-    sig_part_among : (bank : SigTrees L) (index : ℕ) → IsAmong (get_or (each_sig_awaits s bank) index []) (sigs_leaves bank)
+    pub sig_part_among : (bank : SigTrees L) (index : ℕ) → IsAmong (get_or (each_sig_awaits s bank) index []) (sigs_leaves bank)
     sig_part_among no_signals index = none
     sig_part_among (more_signals e bank) zero = among_front (sigs_leaves bank) (sig_among e)
     sig_part_among (more_signals e bank) (suc index) = among_back (sig_leaves e) (sig_part_among bank index)
 
-    vec_part_among : (bank : VecTrees L) (index : ℕ) → IsAmong (get_or (each_vec_awaits s bank) index []) (vecs_leaves bank)
+    pub vec_part_among : (bank : VecTrees L) (index : ℕ) → IsAmong (get_or (each_vec_awaits s bank) index []) (vecs_leaves bank)
     vec_part_among no_lists index = none
     vec_part_among (more_lists e bank) zero = among_front (vecs_leaves bank) (vec_among e)
     vec_part_among (more_lists e bank) (suc index) = among_back (vec_leaves e) (vec_part_among bank index)

@@ -13,7 +13,7 @@ pub fn map_leaves(m: &MapExpr) -> usize
     1
 }
 
-/// How many leaves a signal has.
+/// How many leaves a signal has: one for each place that names a source, its chooser's and its bank's among them.
 #[cycle(count)]
 pub fn signal_leaves(e: &SigExpr) -> usize
     requires { length (sig_leaves (sig_tree e.now)) < 2 ^ 64 }
@@ -30,7 +30,7 @@ pub fn signal_leaves(e: &SigExpr) -> usize
     }
 }
 
-/// How many leaves a list has.
+/// How many leaves a list has: one for each place that names a source, its chooser's and its bank's among them.
 #[cycle(count)]
 pub fn list_leaves(e: &VecExpr) -> usize
     requires { length (vec_leaves (vec_tree e.now)) < 2 ^ 64 }

@@ -16,5 +16,6 @@ pub use bounds::{Caps, bound};
 pub use evaluation::{Contents, eval_view};
 pub use expressions::{MapExpr, SigBank, SigExpr, VecBank, VecExpr, View};
 pub use functions::{Fun, Pred, Test};
+pub use leaf_counts::{list_leaves, signal_leaves};
 pub use leaf_lists::leaves;
 pub use shown::Shown;

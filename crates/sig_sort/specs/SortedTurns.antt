@@ -11,9 +11,11 @@ use Rattle.sig_diff.specs.Differences.{IsLawful, applied, moved}
 use Rattle.sig_diff.specs.Sorting.{by_key, below, not_above, in_order}
 use Rattle.sig_diff.proofs.Sorting.{by_key_total, by_key_antisymmetric, in_order_permuted, in_order_insert, in_order_remove, in_order_at, length_in_order, not_above_within}
 use Rattle.sig_diff.proofs.Filtered.{remove_last}
+use Rattle.sig_diff.specs.Replaying.{AreLawful, StaysShort, replayed}
+use Rattle.sig_ops.specs.Following.{CanFollow, after_all}
 use Rattle.sig_ops.specs.Turns.{Turns}
 use Rattle.sig_ops.specs.TurnSteps.{turns_none, turns_one, turns_append}
-use Rattle.sig_sort.specs.Sorted.{SortedList, sorted_next, element, comes, changes, sorted_gives}
+use Rattle.sig_sort.specs.Sorted.{SortedList, sorted_of, sorted_next, element, comes, changes, sorted_gives}
 
 module _ {T : Type 0} where
   set_is : (xs : List T) (at : ℕ) (x : T) → at < length xs → slice_set xs at x ≡ insert (remove xs at) at x
@@ -123,3 +125,22 @@ module _ {M : Type 0} (key : ℤ → ℤ) where
   pub may_step : (op : SortedList M) (xs : List ℤ) (diff : VecDiff ℤ) → StandsFor key op xs → IsLawful diff (length xs) → length xs ≤ 65536 → SortedStep key op diff
   may_step op xs diff stands lawful short =
       record { lawful = rw stands.items lawful; short = rw stands.items short; sorted = rw stands.items stands.sorted }
+
+-- ---- along differences one after another
+
+module _ {M : Type 0} (maps : M → ℤ → ℤ) where
+  -- an operator that keeps its list in order can go along differences that are lawful for it and keep it short
+  pub sorted_can_follow : (can_call : M → Type 0) (op : SortedList M) (diffs : List (VecDiff ℤ)) → can_call op.mapper → op.sorted ≡ in_order (by_key (maps op.mapper)) op.items → AreLawful op.items diffs →
+      length op.items ≤ 65536 → StaysShort 65536 op.items diffs → CanFollow (λ op diff. sorted_next (maps op.mapper) op diff) (λ op diff. can_call op.mapper × SortedStep (maps op.mapper) op diff) op diffs
+  sorted_can_follow can_call op [] can sorted lawful few short = tt
+  sorted_can_follow can_call op (diff ∷ diffs) can sorted lawful few short =
+      let kept = short lawful.0 in (
+        (can, record { lawful = lawful.0; short = few; sorted = sorted }),
+        sorted_can_follow can_call (sorted_next (maps op.mapper) op diff) diffs can refl lawful.1 kept.0 kept.1,
+      )
+
+  -- after them it is the operator of the list after them
+  pub sorted_after_all : (op : SortedList M) (diffs : List (VecDiff ℤ)) → op.sorted ≡ in_order (by_key (maps op.mapper)) op.items →
+      after_all (λ op diff. sorted_next (maps op.mapper) op diff) op diffs ≡ sorted_of (maps op.mapper) op.mapper (replayed op.items diffs)
+  sorted_after_all op [] sorted = rw (← sorted) refl
+  sorted_after_all op (diff ∷ diffs) sorted = sorted_after_all (sorted_next (maps op.mapper) op diff) diffs refl
