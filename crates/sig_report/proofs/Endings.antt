@@ -3,13 +3,12 @@ use Rattle.std.proofs.Common.{◌≡◌, ◌≢◌, ◌∙◌, ℕ, zero, suc, �
 use Rattle.std.proofs.lemmas.List.{get_or-set_same, get_or-set_other}
 use Rattle.sig_expr.specs.Leaves.{numbered}
 use Rattle.sig_expr.specs.Shapes.{view_tree}
-use Rattle.sig_hist.specs.Histories.{is_closed}
 use Rattle.sig_hist.specs.OneThread.{no_source}
-use Rattle.sig_hist.specs.Sources.{Source, writers_of}
+use Rattle.sig_hist.specs.Sources.{Source}
 use Rattle.sig_report.proofs.Events.{GoesOn, IsPlay, writer_goes}
 use Rattle.sig_report.proofs.Growing.{Grows, grows_not}
 use Rattle.sig_report.proofs.Schedules.{AllSeen, GrowsTo, goes_further, goes_not, polled_at, seen_polled}
-use Rattle.sig_report.proofs.Views.{built_at, its_source, no_shares, view_ends}
+use Rattle.sig_report.proofs.Views.{AllClosed, built_at, no_shares, view_ends}
 use Rattle.sig_report.specs.Lawful.{all_views, no_writer, sources_of}
 use Rattle.sig_script.specs.Leaving.{has_no_leaves}
 use Rattle.sig_report.specs.Playing.{Played, Watched, by_view, by_writer, in_turn, polled, times, view_at, watched_at}
@@ -89,7 +88,7 @@ module _ (script : Script) (all_built : unbuilt script ≡ None) (no_leaves : ha
 
 -- ---- the views
 
-module _ (script : Script) (all_built : unbuilt script ≡ None) (final : List Source) (closed : (number : ℕ) → is_closed (writers_of (get_or final number no_source).plan.allow) (get_or final number no_source).history ≡ true) where
+module _ (script : Script) (all_built : unbuilt script ≡ None) (final : List Source) (closed : AllClosed final) where
   -- all is seen, by the last sources
   pub record IsLast (p : Played) : Type 0 where
     pub seen : AllSeen script all_built final p
@@ -107,9 +106,8 @@ module _ (script : Script) (all_built : unbuilt script ≡ None) (final : List S
       let once : Played = by_view script number p in
       let again = get_or-set_same once.views number (polled (numbered (view_tree (view_at script number))) (sources_of p.sources (view_at script number)) (watched_at once number)) (record { at = []; rows = [] })
       (rw (last_polled number p is).seen.views within) in
-      let all_closed : is_closed (writers_of (its_source (view_at script number) built p.sources).plan.allow) (its_source (view_at script number) built p.sources).history ≡ true = rw is.sources (closed _) in
       ap (λ (watched : Watched). are_complete watched.rows) again
-      ∙ view_ends (view_at script number) built p.sources final (watched_at once number) (last_grows p is.sources _) all_closed (polled_at script all_built final number p within is.seen (last_grows p is.sources))
+      ∙ view_ends (view_at script number) built p.sources final (watched_at once number) (last_grows p is.sources) (rw is.sources closed) (polled_at script all_built final number p within is.seen (last_grows p is.sources))
 
   elsewhere : (number other : ℕ) (p : Played) → other < number → watched_at (times 2 (by_view script number) p) other ≡ watched_at p other
   elsewhere number other p below =

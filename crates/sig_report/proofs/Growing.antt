@@ -5,6 +5,7 @@ use Rattle.sig_hist.specs.Histories.{is_closed}
 use Rattle.sig_hist.specs.Sources.{Source, writers_of}
 use Rattle.sig_hist.specs.declared.edits.Entry.{Entry}
 use Rattle.sig_view.specs.Flow.{Way, before, behind, passed, state_at}
+use Rattle.sig_view.specs.SoundRows.{leaf_source}
 
 pub record Grows (source later : Source) : Type 0 where
   pub plan : later.plan ≡ source.plan
@@ -45,9 +46,6 @@ pub record AreAlike (way other : Way) : Type 0 where
   pub behind : behind way ≡ behind other
   pub passed : passed way ≡ passed other
 
-pub alike_itself : (way : Way) → AreAlike way way
-alike_itself way = record { cap = refl; before = refl; behind = refl; passed = refl }
-
 pub alike_ways : (source later : Source) (from to : ℕ) → Grows source later → from ≤ to → to ≤ length source.history →
     AreAlike (record { source = source; from = from; to = to }) (record { source = later; from = from; to = to })
 alike_ways source later from to grows ahead within = record {
@@ -56,3 +54,10 @@ alike_ways source later from to grows ahead within = record {
   behind = same_state source later to grows within;
   passed = ap (drop from) (sym (same_front source later to grows within));
 }
+
+-- ---- the sources of all leaves
+
+-- each source grows to be the one at its place
+pub record AllGrow (sources later : List Source) : Type 0 where
+  pub count : length later ≡ length sources
+  pub each : (leaf : ℕ) → Grows (leaf_source sources leaf) (leaf_source later leaf)

@@ -1,5 +1,9 @@
 pub mod RowSteps
 pub mod Growing
+pub mod Alike
+pub mod Among
+pub mod Numbering
+pub mod Advancing
 pub mod Polls
 pub mod Writers
 pub mod Allowing

@@ -1,8 +1,7 @@
 -- The report of a play is lawful.
-use Rattle.std.proofs.Common.{◌≡◌, ◌∙◌, ℕ, ◌+◌, ◌<◌, ◌≤◌, ◌==◌, nat_lt, List, [], ◌∷◌, ◌++◌, length, take, map, get_or, Bool, true, false, ◌||◌, None, refl, sym, ap, subst, arith}
-use Rattle.std.proofs.lemmas.Bool.{and_from, eq-eqb, lt-ltb}
+use Rattle.std.proofs.Common.{◌≡◌, ◌∙◌, ℕ, ◌+◌, ◌<◌, ◌≤◌, ◌==◌, nat_lt, List, [], ◌∷◌, ◌++◌, length, take, map, get_or, Bool, true, false, None, refl, sym, ap, subst, arith}
+use Rattle.std.proofs.lemmas.Bool.{eq-eqb, lt-ltb}
 use Rattle.std.proofs.lemmas.List.{length-append, length-map, length_push, take_all}
-use Rattle.std.specs.List.{list_all}
 use Rattle.sig_expr.specs.declared.expressions.VecExpr.{VecExpr}
 use Rattle.sig_expr.specs.declared.expressions.View.{View}
 use Rattle.sig_hist.specs.Histories.{ends_with_leave, has_left, is_closed, is_leave, own_entries}
@@ -13,12 +12,13 @@ use Rattle.sig_hist.specs.declared.edits.Edit.TheVariants.{Leave}
 use Rattle.sig_hist.specs.declared.edits.Entry.{Entry}
 use Rattle.sig_hist.specs.declared.plans.SourcePlan.{SourcePlan}
 use Rattle.sig_report.proofs.Allowing.{length_plans_of, writer_within}
+use Rattle.sig_report.proofs.Among.{all_among}
 use Rattle.sig_report.proofs.Endings.{AllEnded, Writes, all_done, all_ended, all_write, ended_from, written_from}
 use Rattle.sig_report.proofs.Events.{IsPlay, map_at, source_at}
 use Rattle.sig_report.proofs.Polls.{unseen}
 use Rattle.sig_report.proofs.Reports.{each_source, each_view, source_names_are, source_report, sources_are, view_names_are, view_report}
 use Rattle.sig_report.proofs.Schedules.{AllSeen, schedule_goes, schedule_seen, seen_later}
-use Rattle.sig_report.proofs.Views.{SeesView, built_at, no_shares, view_sound, views_are}
+use Rattle.sig_report.proofs.Views.{SeesView, no_shares, view_sound, views_are}
 use Rattle.sig_report.proofs.Writers.{edits_on_append, events_on, own_edits, plan_at}
 use Rattle.sig_report.specs.Lawful.{EachPair, IsLawfulSource, IsLawfulView, Lawful, all_views, edits_by, no_writer, sources_in}
 use Rattle.sig_script.specs.Leaving.{has_no_leaves}
@@ -52,16 +52,6 @@ leave_is_last [] = refl
 leave_is_last (edit ∷ []) = refl
 leave_is_last (edit ∷ next ∷ edits) = leave_is_last (next ∷ edits)
 
-or_true : (first : Bool) → (first || true) ≡ true
-or_true true = refl
-or_true false = refl
-
-all_among : (p : ℕ → Bool) (xs : List ℕ) → ((x : ℕ) → is_among x xs ≡ true → p x ≡ true) → list_all p xs ≡ true
-all_among p [] holds = refl
-all_among p (x ∷ xs) holds =
-    let first : (x == x) ≡ true = eq-eqb x x refl in
-    and_from _ _ (holds x (rw first refl)) (all_among p xs (λ y among. holds y (rw among (or_true (x == y)))))
-
 -- ---- the start
 
 none_had : (script : Script) (writer : ℕ) → get_or (opened script).done writer 0 ≡ 0
@@ -87,10 +77,9 @@ module _ (script : Script) (all_built : unbuilt script ≡ None) (no_leaves : ha
   opened_seen final = record {
     views = length-map (all_views script) _;
     sees = λ number within.
-        let built = built_at script all_built number _ within in
         let nothing : Watched = record { at = []; rows = [] } in
         let is : watched_at (opened script) number ≡ nothing = map_at (λ (view : View). nothing) (all_views script) number (View.Vector (VecExpr.Vector 0)) in
-        subst (λ (watched : Watched). SeesView (view_at script number) built (opened script).sources final watched) (sym is) (unseen []);
+        subst (λ (watched : Watched). SeesView (view_at script number) (opened script).sources final watched) (sym is) (unseen []);
   }
 
   -- ---- the end
@@ -156,7 +145,7 @@ module _ (script : Script) (all_built : unbuilt script ≡ None) (no_leaves : ha
       let complete : are_complete (watched_at (played script) number).rows ≡ true = rw same at (over.ended number (rw views_within within)) in
       record {
         kind = refl;
-        sound = view_sound (view_at script number) (built_at script all_built number _ within) (played script).sources written_out.sources (watched_at (played script) number) (over.last.seen.sees number within) complete;
+        sound = view_sound (view_at script number) (played script).sources written_out.sources (watched_at (played script) number) (over.last.seen.sees number within) complete;
         complete = complete;
         last = refl;
       }

@@ -2,11 +2,10 @@
 use Rattle.std.proofs.Common.{◌≡◌, ◌∙◌, ℕ, ◌+◌, ◌<◌, ◌==◌, List, [], ◌∷◌, length, get_or, slice_get, Bool, true, false, None, refl, sym, ap, subst, arith}
 use Rattle.std.proofs.lemmas.Bool.{eqb-true, eqb-false}
 use Rattle.std.proofs.lemmas.List.{get_or-set_same, get_or-set_other, length-set}
-use Rattle.sig_hist.specs.OneThread.{no_source}
 use Rattle.sig_hist.specs.Sources.{Source}
 use Rattle.sig_report.proofs.Events.{GoesOn, IsPlay, share_goes, source_at, writer_goes}
-use Rattle.sig_report.proofs.Growing.{Grows, grows_not, grows_on}
-use Rattle.sig_report.proofs.Views.{PolledView, SeesView, built_at, no_shares, view_more, view_polled, view_sees}
+use Rattle.sig_report.proofs.Growing.{grows_not, grows_on}
+use Rattle.sig_report.proofs.Views.{GrowOn, PolledView, SeesView, built_at, no_shares, view_more, view_polled, view_sees}
 use Rattle.sig_report.specs.Lawful.{all_views}
 use Rattle.sig_script.specs.Leaving.{has_no_leaves}
 use Rattle.sig_report.specs.Playing.{Played, Watched, by_share, by_view, by_writer, scheduled, taken, view_at, watched_at}
@@ -24,9 +23,8 @@ goes_further script p later last first second = record {
   grows = λ number. grows_on (source_at p number) (source_at later number) (source_at last number) (first.grows number) (second.grows number);
 }
 
--- each source of the play grows to be one of the last ones
 abbrev pub GrowsTo : List Source → Played → Type 0
-GrowsTo final p = (number : ℕ) → Grows (source_at p number) (get_or final number no_source)
+GrowsTo final p = GrowOn p.sources final
 
 module _ (script : Script) (all_built : unbuilt script ≡ None) where
   -- ---- the sources
@@ -46,34 +44,30 @@ module _ (script : Script) (all_built : unbuilt script ≡ None) where
     -- the rows of each view are sound for the last sources
     pub record AllSeen (p : Played) : Type 0 where
       pub views : length p.views ≡ length (all_views script)
-      pub sees : (number : ℕ) (within : number < length (all_views script)) → SeesView (view_at script number) (built_at script all_built number _ within) p.sources final (watched_at p number)
+      pub sees : (number : ℕ) → number < length (all_views script) → SeesView (view_at script number) p.sources final (watched_at p number)
 
-    pub seen_later : (p later : Played) → later.views ≡ p.views → ((number : ℕ) → Grows (source_at p number) (source_at later number)) → AllSeen p → AllSeen later
+    pub seen_later : (p later : Played) → later.views ≡ p.views → GrowOn p.sources later.sources → AllSeen p → AllSeen later
     seen_later p later same grows seen = record {
       views = ap length same ∙ seen.views;
       sees = λ number within.
-          let built = built_at script all_built number _ within in
-          subst (λ (views : List Watched). SeesView (view_at script number) built later.sources final (get_or views number (record { at = []; rows = [] }))) (sym same)
-          (view_more (view_at script number) built p.sources later.sources final (watched_at p number) (grows _) (seen.sees number within));
+          subst (λ (views : List Watched). SeesView (view_at script number) later.sources final (get_or views number (record { at = []; rows = [] }))) (sym same)
+          (view_more (view_at script number) p.sources later.sources final (watched_at p number) grows (seen.sees number within));
     }
 
     pub polled_at : (number : ℕ) (p : Played) (within : number < length (all_views script)) → AllSeen p → GrowsTo final p →
-        PolledView (view_at script number) (built_at script all_built number _ within) p.sources final (watched_at (by_view script number p) number)
+        PolledView (view_at script number) p.sources final (watched_at (by_view script number p) number)
     polled_at number p within seen grows =
-        let built = built_at script all_built number _ within in
         let now = get_or-set_same p.views number _ (record { at = []; rows = [] }) (rw seen.views within) in
-        subst (λ (watched : Watched). PolledView (view_at script number) built p.sources final watched) (sym now) (view_polled (view_at script number) built p.sources final (watched_at p number) (grows _) (seen.sees number within))
+        subst (λ (watched : Watched). PolledView (view_at script number) p.sources final watched) (sym now) (view_polled (view_at script number) (built_at script all_built number _ within) p.sources final (watched_at p number) grows (seen.sees number within))
 
     seen_by : (number other : ℕ) (p : Played) (within : other < length (all_views script)) (same : Bool) → (number == other) ≡ same → AllSeen p → GrowsTo final p →
-        SeesView (view_at script other) (built_at script all_built other _ within) p.sources final (watched_at (by_view script number p) other)
+        SeesView (view_at script other) p.sources final (watched_at (by_view script number p) other)
     seen_by number other p within true is seen grows =
-        let built = built_at script all_built other _ within in
-        subst (λ (polled : ℕ). SeesView (view_at script other) built p.sources final (watched_at (by_view script polled p) other)) (sym (eqb-true number other is))
-        (view_sees (view_at script other) built p.sources final (watched_at (by_view script other p) other) (polled_at other p within seen grows))
+        subst (λ (polled : ℕ). SeesView (view_at script other) p.sources final (watched_at (by_view script polled p) other)) (sym (eqb-true number other is))
+        (view_sees (view_at script other) p.sources final (watched_at (by_view script other p) other) (polled_at other p within seen grows))
     seen_by number other p within false is seen grows =
-        let built = built_at script all_built other _ within in
         let stays = get_or-set_other p.views number other _ (record { at = []; rows = [] }) (λ same. eqb-false number other is (sym same)) in
-        subst (λ (watched : Watched). SeesView (view_at script other) built p.sources final watched) (sym stays) (seen.sees other within)
+        subst (λ (watched : Watched). SeesView (view_at script other) p.sources final watched) (sym stays) (seen.sees other within)
 
     pub seen_polled : (number : ℕ) (p : Played) → AllSeen p → GrowsTo final p → AllSeen (by_view script number p)
     seen_polled number p seen grows = record { views = length-set p.views number _ ∙ seen.views; sees = λ other within. seen_by number other p within (number == other) refl seen grows }

@@ -1,4 +1,4 @@
--- The views of a stage: each follows its source as the port sees more, and as the views are polled.
+-- The views of a stage: each follows its sources as the port sees more, and as the views are polled.
 use Rattle.std.proofs.Common.{◌≡◌, ◌∙◌, ℕ, zero, suc, ◌+◌, ◌<◌, List, [], ◌∷◌, length, map, get_or, slice_set, Bool, true, false, refl, sym, ap, subst, arith}
 use Rattle.std.proofs.lemmas.List.{get_or-map, map-set}
 use Rattle.sig_expr.specs.Leaves.{numbered}

@@ -111,6 +111,40 @@ const PLAYS: [(&str, u8, &str); 23] = [
         0,
         "source a vector [1, 2]\n1 w push 3 -> ok\n2 w leave -> ok\nfinal [1, 2, 3]\nsource c cell 4\n1 w set 4 -> was 4\n2 w leave -> ok\nfinal 4\nsource m map {1: 10}\n1 w put 2 7 -> ok\n2 w delete 1 -> was 10\n3 w leave -> ok\nfinal {2: 7}\nview p vector\nat 0: replace [10]\nat 1: push 30\nat 2: moved\nat 2: ended\nfinal [10, 30]\nview d signal\nat 0: value 4\nat 1: moved\nat 2: moved\nat 2: ended\nfinal 4\nview k map\nat 0: replace {1: 10}\nat 1: insert 2 7\nat 2: remove 1\nat 3: moved\nat 3: ended\nfinal {2: 7}\nview n signal\nat 0: value 2\nat 1: value 3\nat 2: moved\nat 2: ended\nfinal 3\n",
     ),
+    // Lists in order, by a function and by themselves.
+    (
+        r#"{"version": 1, "sources": [{"name": "a", "vector": [4, 1, 3]}], "writers": [{"name": "w", "edits": [{"on": "a", "push": 1}]}], "views": [{"name": "v", "vector": {"sorted": {"rem": 3}, "of": {"vector": "a"}}}], "schedule": ["v", "w", "v"]}"#,
+        0,
+        "source a vector [4, 1, 3]\n1 w push 1 -> ok\n2 w leave -> ok\nfinal [4, 1, 3, 1]\nview v vector\nat 0: replace [3, 1, 4]\nat 1: insert 2 1\nat 2: moved\nat 2: ended\nfinal [3, 1, 1, 4]\n",
+    ),
+    (
+        r#"{"version": 1, "sources": [{"name": "a", "vector": [2, 1]}], "writers": [{"name": "w", "edits": [{"on": "a", "update": [0, 3]}, {"on": "a", "update": [1, 2]}, {"on": "a", "pop": true}]}], "views": [{"name": "v", "vector": {"sorted": {"add": 0}, "of": {"vector": "a"}}}], "schedule": ["v", "w", "v", "w", "v", "w", "v"]}"#,
+        0,
+        "source a vector [2, 1]\n1 w update 0 3 -> was 2\n2 w update 1 2 -> was 1\n3 w pop -> was 2\n4 w leave -> ok\nfinal [3]\nview v vector\nat 0: replace [1, 2]\nat 1: update 1 3\nat 2: update 0 2\nat 3: remove 0\nat 4: moved\nat 4: ended\nfinal [3]\n",
+    ),
+    // A switch: what it does not await keeps its position.
+    (
+        r#"{"version": 1, "sources": [{"name": "c", "cell": 0}, {"name": "x", "cell": 10}, {"name": "y", "cell": 20}], "writers": [{"name": "w", "edits": [{"on": "y", "set": 21}, {"on": "y", "set": 22}, {"on": "c", "set": 1}]}], "views": [{"name": "v", "signal": {"switch": {"cell": "c"}, "bank": [{"cell": "x"}, {"cell": "y"}]}}], "schedule": ["v", "w", "v", "w", "w", "v"]}"#,
+        0,
+        "source c cell 0\n1 w set 1 -> was 0\n2 w leave -> ok\nfinal 1\nsource x cell 10\nfinal 10\nsource y cell 20\n1 w set 21 -> was 20\n2 w set 22 -> was 21\n3 w leave -> ok\nfinal 22\nview v signal\nat 0 0 0: value 10\nat 1 0 2: value 22\nat 2 0 3: moved\nat 2 0 3: ended\nfinal 22\n",
+    ),
+    // A filter and a map by signals.
+    (
+        r#"{"version": 1, "sources": [{"name": "a", "vector": [1, 2, 3]}, {"name": "c", "cell": 0}, {"name": "e", "cell": 1}], "writers": [{"name": "w", "edits": [{"on": "c", "set": 1}, {"on": "e", "set": 0}]}], "views": [{"name": "v", "vector": {"of": {"vector": "a"}, "filter_by": [{"cell": "c"}, {"cell": "e"}]}}], "schedule": ["v", "w", "v", "w", "v"]}"#,
+        0,
+        "source a vector [1, 2, 3]\nfinal [1, 2, 3]\nsource c cell 0\n1 w set 1 -> was 0\n2 w leave -> ok\nfinal 1\nsource e cell 1\n1 w set 0 -> was 1\n2 w leave -> ok\nfinal 0\nview v vector\nat 0 0 0: replace [1, 3]\nat 0 1 0: insert 1 2\nat 0 1 1: remove 0; remove 1\nat 0 2 2: moved\nat 0 2 2: ended\nfinal [2]\n",
+    ),
+    (
+        r#"{"version": 1, "sources": [{"name": "a", "vector": [1, 2]}, {"name": "c", "cell": 10}, {"name": "e", "cell": 20}], "writers": [{"name": "w", "edits": [{"on": "c", "set": 11}, {"on": "c", "set": 11}]}], "views": [{"name": "v", "vector": {"of": {"vector": "a"}, "map_by": [{"cell": "c"}, {"cell": "e"}]}}], "schedule": ["v", "w", "v", "w", "v"]}"#,
+        0,
+        "source a vector [1, 2]\nfinal [1, 2]\nsource c cell 10\n1 w set 11 -> was 10\n2 w set 11 -> was 11\n3 w leave -> ok\nfinal 11\nsource e cell 20\nfinal 20\nview v vector\nat 0 0 0: replace [21, 12]\nat 0 1 0: update 1 13\nat 0 2 0: moved\nat 0 3 0: moved\nat 0 3 0: ended\nfinal [21, 13]\n",
+    ),
+    // A pick: another list whole, and then its differences.
+    (
+        r#"{"version": 1, "sources": [{"name": "c", "cell": 0}, {"name": "a", "vector": [1]}, {"name": "b", "vector": [2]}], "writers": [{"name": "w", "edits": [{"on": "c", "set": 3}, {"on": "c", "set": 5}, {"on": "b", "push": 4}]}], "views": [{"name": "v", "vector": {"pick": {"cell": "c"}, "bank": [{"vector": "a"}, {"vector": "b"}]}}], "schedule": ["v", "w", "v", "w", "v", "w", "v"]}"#,
+        0,
+        "source c cell 0\n1 w set 3 -> was 0\n2 w set 5 -> was 3\n3 w leave -> ok\nfinal 5\nsource a vector [1]\nfinal [1]\nsource b vector [2]\n1 w push 4 -> ok\n2 w leave -> ok\nfinal [2, 4]\nview v vector\nat 0 0 0: replace [1]\nat 1 0 0: replace [2]\nat 2 0 0: moved\nat 2 0 1: push 4\nat 3 0 2: moved\nat 3 0 2: ended\nfinal [2, 4]\n",
+    ),
     // The refusals by their numbers.
     ("{", 4, "script 1\n"),
     (
@@ -134,7 +168,7 @@ const PLAYS: [(&str, u8, &str); 23] = [
         "script 6 3\n",
     ),
     (
-        r#"{"version": 1, "sources": [{"name": "a", "vector": [1]}], "writers": [], "views": [{"name": "v", "signal": {"sum": {"sorted": "neg", "of": {"vector": "a"}}}}]}"#,
+        r#"{"version": 1, "sources": [{"name": "a", "vector": [1]}], "writers": [], "views": [{"name": "v", "signal": {"sum": {"concat": [{"vector": "a"}, {"vector": "a"}]}}}]}"#,
         4,
         "script 8 /views/0/signal/sum\n",
     ),

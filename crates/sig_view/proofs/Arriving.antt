@@ -50,6 +50,11 @@ module _ (s : PortState) where
   risen source more k false is rises = still k
   risen source more k true is rises = rw (eqb-true k source is) (record { front = take-length (s.seen source); known = rises; closed = λ closed. refl })
 
+  -- where a look has shown the end of what was seen
+  pub shows_no_more : (source at k : ℕ) (same : Bool) → (k == source) ≡ same → at ≡ length (s.seen source) → s.count k ≡ length (s.seen k) → cond same at (s.count k) ≡ length (s.seen k)
+  shows_no_more source at k false is end known = known
+  shows_no_more source at k true is end known = rw (eqb-true k source is) end
+
   gone_on : (source : ℕ) (seen : List Entry) (count k : ℕ) (same : Bool) → (k == source) ≡ same → GoesOn s source seen count → GoesOn s k (cond same seen (s.seen k)) (cond same count (s.count k))
   gone_on source seen count k false is goes = still k
   gone_on source seen count k true is goes = rw (eqb-true k source is) goes
@@ -101,7 +106,7 @@ module _ (s : PortState) where
 
 -- ---- positions
 
-go_on_same : (positions : List ℕ) → GoOn positions positions
+pub go_on_same : (positions : List ℕ) → GoOn positions positions
 go_on_same [] = tt
 go_on_same (position ∷ positions) = (omega arith, go_on_same positions)
 
@@ -129,13 +134,20 @@ mark_at [] leaf mark below = absurd (omega (arith, below))
 mark_at (first ∷ marks) zero mark below = refl
 mark_at (first ∷ marks) (suc leaf) mark below = mark_at marks leaf mark (omega (arith, below))
 
+mark_elsewhere : (marks : List Mark) (leaf other : ℕ) (mark : Mark) → other ≢ leaf → slice_get (slice_set marks leaf mark) other ≡ slice_get marks other
+mark_elsewhere [] leaf other mark apart = refl
+mark_elsewhere (first ∷ marks) zero zero mark apart = absurd (apart refl)
+mark_elsewhere (first ∷ marks) zero (suc other) mark apart = refl
+mark_elsewhere (first ∷ marks) (suc leaf) zero mark apart = refl
+mark_elsewhere (first ∷ marks) (suc leaf) (suc other) mark apart = mark_elsewhere marks leaf other mark (λ same. apart (ap suc same))
+
 among_one : (l leaf : ℕ) → is_among l (leaf ∷ []) ≡ true → l ≡ leaf
 among_one l leaf among = grind (arith, nat_tests)
 
 not_among_one : (l leaf : ℕ) → is_among l (leaf ∷ []) ≡ false → l ≢ leaf
 not_among_one l leaf among = grind (arith, nat_tests)
 
-none_more : (held : Option ℕ) → held ≡ first_held held []
+pub none_more : (held : Option ℕ) → held ≡ first_held held []
 none_more None = refl
 none_more (Some word) = refl
 
@@ -193,10 +205,12 @@ module _ (s : PortState) (old : Progress) (leaf : ℕ) (can : CanWalk s old) (be
         record {
           goes_on = go_on_same old.positions;
           others = λ l among. refl;
+          unmarked = λ l among. mark_elsewhere old.marks leaf l (mark_of version.closed) (not_among_one l leaf among);
           stays = λ stays. (stays, refl);
           moves = λ moves stays. cc;
           held = rw (drop-length s.met) (none_more old.held);
           fresh = λ l among held. rw (among_one l leaf among) (omega (arith, at, end));
+          settled = λ stays held. record { seen = refl; counts = λ source known. shows_no_more s (s.source (old.first + leaf)) version.count source (source == s.source (old.first + leaf)) refl end known };
           caught_up = λ stays held l among. rw (among_one l leaf among) (record {
             position = sym at ∙ end;
             count = put_at s.count (s.source (old.first + leaf)) version.count ∙ end;
@@ -225,10 +239,12 @@ module _ (s : PortState) (old : Progress) (leaf : ℕ) (can : CanWalk s old) (be
         record {
           goes_on = go_on_set old.positions leaf version.count (omega (arith, more));
           others = λ l among. get_or-set_other old.positions leaf l version.count 0 (not_among_one l leaf among);
+          unmarked = λ l among. mark_elsewhere old.marks leaf l (mark_of version.closed) (not_among_one l leaf among);
           stays = λ stays. cc;
           moves = λ moves stays same. absurd (omega (arith, more, there, ap (λ (positions : List ℕ). slice_index positions leaf) same));
           held = rw (met, drop-length s.met) (none_more old.held);
           fresh = λ l among held. rw (among_one l leaf among, there) (omega (arith, count, longer s t looked (old.first + leaf)));
+          settled = λ stays held. cc;
           caught_up = λ stays held l among. cc;
         }
 
@@ -241,10 +257,12 @@ module _ (s : PortState) (old : Progress) (leaf : ℕ) (can : CanWalk s old) (be
       record {
         goes_on = go_on_same old.positions;
         others = λ l among. refl;
+        unmarked = λ l among. refl;
         stays = λ stays. (stays, refl);
         moves = λ moves stays. cc;
         held = rw since (one_more old.held entry);
         fresh = λ l among held. absurd (its_own (u.source (old.first + leaf)) (u.source (old.first + l)) word (ap (λ (l : ℕ). u.source (old.first + l)) (among_one l leaf among)) (rw since at held));
+        settled = λ stays held. absurd (kept_some old.held word held);
         caught_up = λ stays held l among. absurd (kept_some old.held word held);
       }
 

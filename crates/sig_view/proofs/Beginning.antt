@@ -1,5 +1,5 @@
 -- A view's task before its first poll, and what the polls before its first row answer.
-use Rattle.std.proofs.Common.{◌≡◌, ◌∙◌, ℕ, zero, suc, ◌+◌, ◌<◌, ◌≤◌, ◌^◌, List, length, slice_get, replicate, true, false, Option, None, Some, refl, sym, ap, arith, zero-le, le_trans}
+use Rattle.std.proofs.Common.{◌≡◌, ◌∙◌, ℕ, zero, suc, ◌+◌, ◌<◌, ◌≤◌, ◌^◌, List, length, slice_get, replicate, true, false, Option, None, Some, refl, sym, ap, arith, zero-le, le_trans, slice_index}
 use Rattle.std.proofs.lemmas.List.{length-map, length-replicate}
 use Rattle.std.proofs.lemmas.Option.{slice_get_within}
 use Rattle.sig_diff.specs.declared.contents.Content.{Content}
@@ -10,8 +10,8 @@ use Rattle.sig_expr.specs.Trees.{ViewTree}
 use Rattle.sig_expr.specs.declared.expressions.View.{View}
 use Rattle.sig_hist.specs.Ports.{IsSoundPort, PortState}
 use Rattle.sig_view.proofs.AllTried.{is_there}
-use Rattle.sig_view.proofs.FirstRows.{all_fetched, leaf_within, same_leaves}
-use Rattle.sig_view.proofs.OneLeaf.{numbered_short, one_leaf}
+use Rattle.sig_view.proofs.FirstRows.{all_fetched, leaf_within}
+use Rattle.sig_view.proofs.Numbering.{same_leaves, view_short, within_caps}
 use Rattle.sig_view.specs.Built.{IsBuilt}
 use Rattle.sig_view.specs.FirstPolls.{HasBegun}
 use Rattle.sig_view.specs.Fetching.{AreFetched, HasTried, LacksBy, at_start, content_in, is_missing, is_nothing}
@@ -63,7 +63,7 @@ ready_at_start s task first built short walk fetching none port = record {
   where
     holds_nothing : (stage : Stage) → begun stage ≡ false → contents_got stage ≡ replicate (length (leaves (view_tree task.view))) None → Holds (contents_of s task) (view_of task) stage
     holds_nothing (Fetching contents) is got = record {
-      each = ap length got ∙ length-replicate _ None ∙ sym (same_leaves (view_tree task.view) built);
+      each = ap length got ∙ length-replicate _ None ∙ sym (same_leaves (view_tree task.view));
       fetched = λ leaf content found. absurd (none_got _ leaf content (rw got at found));
     }
     holds_nothing stage is got = absurd cc
@@ -103,7 +103,7 @@ fetched_holds s view stage is holds = absurd cc
 
 pub count_each : (s : PortState) (task : ViewTask) → IsReady s task → begun task.stage ≡ false → length (contents_got task.stage) ≡ length (positions_of task)
 count_each s task ready before =
-    (holds_fetched (contents_of s task) (view_of task) task.stage before ready.holds).each ∙ same_leaves (view_tree task.view) ready.is_task.built ∙ sym ready.is_task.leaf_each
+    (holds_fetched (contents_of s task) (view_of task) task.stage before ready.holds).each ∙ same_leaves (view_tree task.view) ∙ sym ready.is_task.leaf_each
 
 pub can_set_out : (s : PortState) (walk : Progress) → CanWalk s walk → CanWalk s (set_out walk)
 can_set_out s walk can = record { sound = can.sound; numbers = can.numbers; own = can.own; within = can.within; marks = length-map walk.marks _ ∙ can.marks }
@@ -135,9 +135,15 @@ has_polled s t walk looked = record {
 -- the lists that the operators start on are short
 pub starts_short : (t : PortState) (task : ViewTask) (contents : List (Option Content)) → IsReady t task → content_in contents ≡ contents_of t task → longest (list_length (content_in contents)) (view_of task) ≤ 65536
 starts_short t task contents ready all =
-    let one : 0 < length (leaves (view_tree task.view)) = omega (arith, one_leaf (view_tree task.view) ready.is_task.built) in
-    let fits : list_length (contents_of t task) 0 ≤ (t.plan (t.source (task.walk.first + 0))).cap = leaf_within t task.walk.first (length task.walk.positions) 0 task.walk.positions ready.can.sound (omega (arith, one, ready.is_task.leaf_each)) in
-    rw all (le_trans (numbered_short (cap_of task.caps.value) (list_length (contents_of t task)) (view_tree task.view) ready.is_task.built (le_trans fits (ready.port.within_caps 0 one))) ready.is_task.short)
+    let view : ViewTree ℕ = view_tree task.view in
+    let caps : ℕ → ℕ = cap_of task.caps.value in
+    let lengths : ℕ → ℕ = list_length (contents_of t task) in
+    let each : (leaf : ℕ) → leaf < length (leaves view) → lengths (0 + leaf) ≤ caps (slice_index (leaves view) leaf) = λ leaf within.
+    let here : 0 + leaf ≡ leaf = omega arith in
+    let fits : lengths leaf ≤ (t.plan (t.source (task.walk.first + leaf))).cap =
+    leaf_within t task.walk.first (length task.walk.positions) leaf task.walk.positions ready.can.sound (omega (arith, within, ready.is_task.leaf_each)) in
+    rw here (le_trans fits (ready.port.within_caps leaf within)) in
+    rw all (le_trans (view_short caps lengths view (within_caps caps lengths 0 (leaves view) each)) ready.is_task.short)
 
 module _ (s t : PortState) (old new : ViewTask) (ready : IsReady s old) (before : begun old.stage ≡ false) (same : IsSameTask old new) (gone : HasGone s t old.walk new.walk) where
   ready_after : Holds (contents_of t new) (view_of new) new.stage → IsReady t new
@@ -230,6 +236,14 @@ module _ (s t : PortState) (old new : ViewTask) (ready : IsReady s old) (before 
 module _ (s t : PortState) (old new : ViewTask) (begun_is : HasBegun s t old new) where
   pub short_begun : new.walk.held ≡ None → longest (list_length (content_in (contents_got new.stage))) (view_of new) ≤ 65536
   short_begun held = short_first s t old new begun_is.ready begun_is.before begun_is.same begun_is.gone (contents_got new.stage) begun_is.tried begun_is.fetching refl held
+
+  -- there is a place for each leaf
+  pub room_begun : length (leaves (view_tree new.view)) ≤ length (contents_got new.stage)
+  room_begun =
+      let was = count_each s old begun_is.ready begun_is.before in
+      let is = begun_is.tried.are.each in
+      let leaf_each = begun_is.ready.is_task.leaf_each in
+      rw begun_is.same.view (omega (arith, was, is, leaf_each))
 
   pub again_begun : {T : Type 0} (told : T) (word : ℕ) → new.walk.held ≡ Some word → IsPoll {T = T} s t old new told (polled.Again word told)
   again_begun told word held = poll_again s t old new begun_is.ready begun_is.before begun_is.same begun_is.gone (contents_got new.stage) begun_is.tried told word begun_is.fetching refl held

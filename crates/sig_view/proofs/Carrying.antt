@@ -9,11 +9,12 @@ use Rattle.sig_expr.specs.declared.functions.Pred.{Pred}
 use Rattle.sig_ops.specs.Filters.{Filter}
 use Rattle.sig_ops.specs.Tables.{filter_gives}
 use Rattle.sig_hist.specs.Ports.{PortState}
+use Rattle.sig_view.proofs.Leading.{flow_leads}
 use Rattle.sig_view.proofs.Staying.{same_contents}
-use Rattle.sig_view.proofs.Turning.{Leads, flow_leads}
-use Rattle.sig_view.specs.Built.{IsListBuilt}
+use Rattle.sig_view.proofs.Turning.{Leads}
+use Rattle.sig_view.specs.Built.{AreListsBuilt, AreSignalsBuilt, IsListBuilt, IsSignalBuilt}
 use Rattle.sig_view.specs.Flow.{list_flow, through}
-use Rattle.sig_view.specs.Nodes.{ListOps, ListStands, images, kept, list_tree, source}
+use Rattle.sig_view.specs.Nodes.{ListOps, source, images, kept, ordered, let_in, raised, pick_of, SignalOps, number, image_of, without_repeats, switch_of, count_of, sum_of, SignalsOps, no_signal, one_signal, ListsOps, no_list, one_list, ListStands, list_tree, list_trees, signal_tree, signal_trees}
 use Rattle.sig_view.specs.SoundRows.{GoOn, contents_at, ways}
 use Rattle.sig_view.specs.Walking.{CanWalk, HasGone, Progress, seen_sources, sources_in}
 
@@ -24,10 +25,31 @@ ahead (old ∷ from) (new ∷ to) goes (suc leaf) = ahead from to goes.1 leaf
 ahead [] (new ∷ to) goes leaf = absurd goes
 ahead (old ∷ from) [] goes leaf = absurd goes
 
-pub list_is_built : (ops : ListOps) → IsListBuilt (list_tree ops)
-list_is_built (source leaf) = tt
-list_is_built (images fun ops) = list_is_built ops
-list_is_built (kept filter ops) = list_is_built ops
+mutual
+  pub list_is_built : (ops : ListOps) → IsListBuilt (list_tree ops)
+  list_is_built (source leaf) = tt
+  list_is_built (images fun ops) = list_is_built ops
+  list_is_built (kept filter ops) = list_is_built ops
+  list_is_built (ordered list ops) = list_is_built ops
+  list_is_built (let_in by ops bank) = (list_is_built ops, signals_are_built bank)
+  list_is_built (raised by ops bank) = (list_is_built ops, signals_are_built bank)
+  list_is_built (pick_of choice ops bank) = (signal_is_built ops, lists_are_built bank)
+
+  pub signal_is_built : (ops : SignalOps) → IsSignalBuilt (signal_tree ops)
+  signal_is_built (number leaf) = tt
+  signal_is_built (image_of fun ops) = signal_is_built ops
+  signal_is_built (without_repeats last ops) = signal_is_built ops
+  signal_is_built (switch_of choice ops bank) = (signal_is_built ops, signals_are_built bank)
+  signal_is_built (count_of len ops) = list_is_built ops
+  signal_is_built (sum_of items ops) = list_is_built ops
+
+  pub signals_are_built : (bank : SignalsOps) → AreSignalsBuilt (signal_trees bank)
+  signals_are_built no_signal = tt
+  signals_are_built (one_signal ops bank) = (signal_is_built ops, signals_are_built bank)
+
+  pub lists_are_built : (bank : ListsOps) → AreListsBuilt (list_trees bank)
+  lists_are_built no_list = tt
+  lists_are_built (one_list ops bank) = (list_is_built ops, lists_are_built bank)
 
 module _ (s t : PortState) (old new : Progress) (can : CanWalk s old) (gone : HasGone s t old new) where
   -- the sources are those of the leaves that set out

@@ -1,15 +1,16 @@
 -- Polls after the first row: one walk, or two with a look between them, and the answer.
-use Rattle.std.proofs.Common.{◌≡◌, ◌∙◌, ℕ, ◌+◌, ◌<◌, ◌≤◌, List, [], ◌∷◌, length, take, drop, get_or, slice_index, Bool, true, false, Option, None, Some, refl, sym, ap, arith, le_trans}
+use Rattle.std.specs.List.{slice_get}
+use Rattle.std.proofs.Common.{◌≡◌, ◌∙◌, ℕ, zero, suc, ◌+◌, ◌<◌, ◌≤◌, List, [], ◌∷◌, length, take, drop, map, get_or, slice_index, Bool, true, false, Option, None, Some, refl, sym, ap, arith, le_trans}
 use Rattle.std.proofs.lemmas.List.{append-nil, take-append-drop}
 use Rattle.std.proofs.lemmas.Option.{get_or_from_slice_get, slice_get_within}
-use Rattle.sig_expr.specs.Leaves.{leaves}
+use Rattle.sig_expr.specs.Awaited.{awaits}
 use Rattle.sig_hist.specs.Ports.{GoesOn, IsSoundPort, PortState}
 use Rattle.sig_hist.specs.Sources.{is_among}
 use Rattle.sig_hist.specs.declared.ports.Met.{Met}
 use Rattle.sig_view.proofs.Leaving.{polled_again, polled_by_looks, polled_not, polled_of}
 use Rattle.sig_view.proofs.Listening.{not_closed, open_within, same_sources}
 use Rattle.sig_view.proofs.Staying.{seen_no_less}
-use Rattle.sig_view.proofs.Stepping.{KeepsPort, among_all, awaited_is, before_is, moved_on, next_row, ready_again, underway}
+use Rattle.sig_view.proofs.Stepping.{KeepsPort, before_is, moved_on, next_row, ready_again, underway}
 use Rattle.sig_view.specs.GoingOn.{HasGoneOn, HasLost, HasStepped, IsBehind}
 use Rattle.sig_view.specs.Polling.{HasPolled, HasStayed, IsAtEnd, IsAtRest, IsLaterRow, IsNext, IsPoll, IsSameTask}
 use Rattle.sig_view.specs.SoundRows.{IsNextRow, IsShownBy, contents_at, is_awaited}
@@ -23,6 +24,7 @@ use Rattle.sig_view.specs.declared.task.Polled.{Polled}
 use Rattle.sig_view.specs.declared.task.Polled.TheVariants as polled
 use Rattle.sig_view.specs.declared.task.Stage.TheVariants.{Ended}
 use Rattle.sig_view.specs.declared.task.ViewTask.{ViewTask}
+use Rattle.sig_view.specs.declared.walk.Mark.{Mark}
 use Rattle.sig_view.specs.declared.walk.Mark.TheVariants.{Skipped}
 
 -- ---- between the walks of a poll
@@ -93,8 +95,7 @@ module _ (s t u : PortState) (old mid new : ViewTask) (follows : is_following ol
   module _ (body : Body) (stepped : HasStepped t u mid new body) where
     fresh_each : (leaf : ℕ) → is_awaited (view_of new) (sources_of u new) (positions_of new) leaf ≡ true → IsFresh s u new.walk leaf
     fresh_each leaf awaited =
-        let among_new : is_among leaf (leaves (view_of new)) ≡ true = sym (awaited_is new stepped.ready.is_task (sources_of u new) (positions_of new) leaf) ∙ awaited in
-        let among : is_among leaf (leaves (view_of mid)) ≡ true = rw stepped.same.view at among_new in
+        let among : is_among leaf (awaits (contents_of u new) (view_of mid)) ≡ true = rw stepped.same.view at awaited in
         fresh_since s t u new leaf paused.met paused.polled.source paused.polled.seen (stepped.walked.fresh leaf among)
 
     word_is : new.walk.held ≡ first_word (met_since s u)
@@ -175,6 +176,14 @@ module _ (t u : PortState) (mid : ViewTask) (rests : Bool) (listened : HasListen
       (record { sound = sound; numbers = ready.can.numbers; own = λ leaf within. rw listened.polled.is_own (ready.can.own leaf within); within = rw same_leaves ready.can.within; marks = ready.can.marks })
       (rw same_leaves ready.holds)
 
+-- a leaf whose mark is as it was when the walk set out isn't open
+unlooked_shut : (marks news : List Mark) (leaf : ℕ) → slice_get news leaf ≡ slice_get (map (λ mark. Skipped) marks) leaf → is_open_mark (get_or news leaf Skipped) ≡ true → ⊥
+unlooked_shut marks [] leaf same opens = cc
+unlooked_shut [] (mark ∷ news) zero same opens = cc
+unlooked_shut [] (mark ∷ news) (suc leaf) same opens = unlooked_shut [] news leaf same opens
+unlooked_shut (old ∷ marks) (mark ∷ news) zero same opens = cc
+unlooked_shut (old ∷ marks) (mark ∷ news) (suc leaf) same opens = unlooked_shut marks news leaf same opens
+
 -- a walk that found nothing
 pub record HasFoundNothing (s t : PortState) (old mid : ViewTask) : Type 0 where
   pub body : Body
@@ -195,8 +204,19 @@ module _ (s t : PortState) (old mid : ViewTask) (follows : is_following old ≡ 
   stays : positions_of mid ≡ positions_of old
   stays = (stepped.walked.stays nothing.still).1
 
-  caught_up : (leaf : ℕ) → is_among leaf (leaves (view_of mid)) ≡ true → IsCaughtUp t mid.walk leaf
+  abbrev IsAmong : ℕ → Type 0
+  IsAmong leaf = is_among leaf (awaits (contents_of t mid) (view_of mid)) ≡ true
+
+  caught_up : (leaf : ℕ) → IsAmong leaf → IsCaughtUp t mid.walk leaf
   caught_up leaf among = stepped.walked.caught_up nothing.still nothing.silent leaf (rw stepped.same.view at among)
+
+  -- a leaf that wasn't looked at isn't open
+  open_among : (leaf : ℕ) (among : Bool) → is_among leaf (awaits (contents_of t mid) (view_of old)) ≡ among → is_open_leaf mid.walk leaf ≡ true → among ≡ true
+  open_among leaf true is opens = refl
+  open_among leaf false is opens = absurd (unlooked_shut old.walk.marks mid.walk.marks leaf (stepped.walked.unmarked leaf is) opens)
+
+  pub opens_among : (leaf : ℕ) → is_open_leaf mid.walk leaf ≡ true → IsAmong leaf
+  opens_among leaf opens = rw stepped.same.view (open_among leaf _ refl opens)
 
   within_positions : (leaf : ℕ) → is_open_leaf mid.walk leaf ≡ true → leaf < length (positions_of mid)
   within_positions leaf opens = omega (arith, open_within mid.walk.marks leaf opens, stepped.ready.can.marks)
@@ -205,7 +225,7 @@ module _ (s t : PortState) (old mid : ViewTask) (follows : is_following old ≡ 
   can_wait = record {
     can = stepped.ready.can;
     one_task = λ leaf within. stepped.ready.port.one_task leaf (omega (arith, is_task.leaf_each));
-    caught_up = λ leaf opens. caught_up leaf (among_all mid is_task leaf (within_positions leaf opens));
+    caught_up = λ leaf opens. caught_up leaf (opens_among leaf opens);
   }
 
   polled_for : (u : PortState) (rests : Bool) → HasPolled t u mid.walk rests → HasPolled s u old.walk rests
@@ -225,12 +245,11 @@ module _ (s t : PortState) (old mid : ViewTask) (follows : is_following old ≡ 
         contents = rw sources contents;
       }
 
-  among_awaited : (u : PortState) (new : ViewTask) (leaf : ℕ) → view_of new ≡ view_of mid → is_awaited (view_of new) (sources_of u new) (positions_of new) leaf ≡ true → is_among leaf (leaves (view_of mid)) ≡ true
-  among_awaited u new leaf same awaited =
-      let awaited_there : is_awaited (view_of mid) (sources_of u new) (positions_of new) leaf ≡ true = rw same at awaited in
-      sym (awaited_is mid is_task (sources_of u new) (positions_of new) leaf) ∙ awaited_there
+  -- what the look has shown is there for the next walk
+  pub behind : (u : PortState) → HasNews t u mid.walk → IsBehind u mid
+  behind u news = record { leaf = news.leaf; awaited = rw (same_leaves t u mid false news.listened) (opens_among news.leaf news.opens); more = rw news.listened.polled.source news.more }
 
-  fresh_there : (leaf : ℕ) → is_among leaf (leaves (view_of mid)) ≡ true → IsFresh s t mid.walk leaf
+  fresh_there : (leaf : ℕ) → IsAmong leaf → IsFresh s t mid.walk leaf
   fresh_there leaf among = stepped.walked.fresh leaf (rw stepped.same.view at among)
 
   -- no leaf can go on
@@ -238,7 +257,7 @@ module _ (s t : PortState) (old mid : ViewTask) (follows : is_following old ≡ 
   closed_when leaf true shut = refl
   closed_when leaf false shut = cc
 
-  at_end : (leaf : ℕ) → IsLastOpen mid.walk (length mid.walk.marks) None → is_among leaf (leaves (view_of mid)) ≡ true → IsAtEnd s t old (moved_on mid mid.walk Ended) leaf
+  at_end : (leaf : ℕ) → IsLastOpen mid.walk (length mid.walk.marks) None → IsAmong leaf → IsAtEnd s t old (moved_on mid mid.walk Ended) leaf
   at_end leaf none among =
       let caught : IsCaughtUp t mid.walk leaf = caught_up leaf among in
       let mark : get_or mid.walk.marks leaf Skipped ≡ mark_of (is_seen_closed t (mid.walk.first + leaf)) = get_or_from_slice_get mid.walk.marks leaf _ Skipped caught.mark in
@@ -256,8 +275,8 @@ module _ (s t : PortState) (old mid : ViewTask) (follows : is_following old ≡ 
         polled = polled_by_looks s t old.walk stepped.looked;
         next = record { refused = sym was.no_failure; failed = rw was.no_failure refl; ended = refl; row = rw was.rows refl };
         answer_is = record {
-          stayed = record { row = was.rows; stays = stays; fresh = λ leaf awaited. fresh_there leaf (among_awaited t new leaf refl awaited) };
-          ended = λ leaf awaited. at_end leaf none (among_awaited t new leaf refl awaited);
+          stayed = record { row = was.rows; stays = stays; fresh = fresh_there };
+          ended = λ leaf awaited. at_end leaf none awaited;
         };
       }
 
@@ -265,38 +284,42 @@ module _ (s t : PortState) (old mid : ViewTask) (follows : is_following old ≡ 
     listened : HasListened t u mid.walk true
     listened = rested.listened
 
+    -- the leaves that are awaited are those that were
+    among_still : (leaf : ℕ) → is_awaited (view_of mid) (sources_of u mid) (positions_of mid) leaf ≡ true → IsAmong leaf
+    among_still leaf awaited = rw (same_leaves t u mid true listened) at awaited
+
     closed_later : (leaf : ℕ) → is_seen_closed u leaf ≡ is_seen_closed t leaf
     closed_later leaf = same_closed t u mid true listened leaf
 
-    opens_when : (leaf : ℕ) → is_among leaf (leaves (view_of mid)) ≡ true → is_seen_closed u (mid.walk.first + leaf) ≡ false → is_open_leaf mid.walk leaf ≡ true
+    opens_when : (leaf : ℕ) → IsAmong leaf → is_seen_closed u (mid.walk.first + leaf) ≡ false → is_open_leaf mid.walk leaf ≡ true
     opens_when leaf among opens =
         let mark : get_or mid.walk.marks leaf Skipped ≡ mark_of (is_seen_closed t (mid.walk.first + leaf)) = get_or_from_slice_get mid.walk.marks leaf _ Skipped (caught_up leaf among).mark in
         ap is_open_mark (mark ∙ ap mark_of (sym (closed_later (mid.walk.first + leaf)) ∙ opens))
 
-    at_rest_by : (leaf : ℕ) (closed : Bool) → is_among leaf (leaves (view_of mid)) ≡ true → is_seen_closed u (mid.walk.first + leaf) ≡ closed → IsAtRest s u old mid closed leaf
+    at_rest_by : (leaf : ℕ) (closed : Bool) → IsAmong leaf → is_seen_closed u (mid.walk.first + leaf) ≡ closed → IsAtRest s u old mid closed leaf
     at_rest_by leaf true among closed = record { position = rw (listened.polled.source, listened.seen) (caught_up leaf among).position; closed = closed }
     at_rest_by leaf false among closed =
         let opens : is_open_leaf mid.walk leaf ≡ true = opens_when leaf among closed in
         record { condition = rested.waits leaf opens; armed = rw stepped.looked.arms at (rested.armed_each leaf opens) }
 
-    fresh_later : (leaf : ℕ) → is_among leaf (leaves (view_of mid)) ≡ true → IsFresh s u mid.walk leaf
+    fresh_later : (leaf : ℕ) → IsAmong leaf → IsFresh s u mid.walk leaf
     fresh_later leaf among held = fresh_there leaf among (rw (listened.met, listened.polled.source) at held)
 
     pub waits : {T : Type 0} (told : T) → IsSoundPort u → IsPoll s u old mid told polled.Pending
     waits told sound =
         let was = underway old.stage follows in
         let is = underway mid.stage stepped.follows in
-        let within : last < length (positions_of mid) = within_positions last is_last.opens in
-        let among : is_among last (leaves (view_of mid)) ≡ true = among_all mid is_task last within in
+        let among : IsAmong last = opens_among last is_last.opens in
+        let awaited : is_awaited (view_of mid) (sources_of u mid) (positions_of mid) last ≡ true = rw (same_leaves t u mid true listened) among in
         record {
           ready = still_ready t u mid true listened stepped.ready sound;
           same = stepped.same;
           polled = polled_for u true listened.polled;
           next = record { refused = sym was.no_failure; failed = rw (is.no_failure, was.no_failure) refl; ended = is.no_end; row = rw (is.rows, was.rows) refl };
           answer_is = record {
-            stayed = record { row = was.rows; stays = stays; fresh = λ leaf awaited. fresh_later leaf (among_awaited u mid leaf refl awaited) };
-            rests = λ leaf awaited. at_rest_by leaf _ (among_awaited u mid leaf refl awaited) refl;
-            some = (last, awaited_is mid is_task (sources_of u mid) (positions_of mid) last ∙ among, closed_later (mid.walk.first + last) ∙ not_closed t mid.walk last (caught_up last among) is_last.opens);
+            stayed = record { row = was.rows; stays = stays; fresh = λ leaf awaited. fresh_later leaf (among_still leaf awaited) };
+            rests = λ leaf awaited. at_rest_by leaf _ (among_still leaf awaited) refl;
+            some = (last, awaited, closed_later (mid.walk.first + last) ∙ not_closed t mid.walk last (caught_up last among) is_last.opens);
           };
         }
 
@@ -307,7 +330,8 @@ finds_more s t old mid ready behind nothing =
     let walked = stepped.walked in
     let leaf : ℕ = behind.leaf in
     let at : ℕ = old.walk.first + leaf in
-    let among : is_among leaf (leaves (view_of old)) ≡ true = among_all old ready.is_task leaf behind.within in
+    let contents : contents_of t mid ≡ contents_of s old = ap (contents_at (sources_of t mid)) (walked.stays nothing.still).1 ∙ before_is s t old mid nothing.body ready stepped in
+    let among : is_among leaf (awaits (contents_of t mid) (view_of old)) ≡ true = rw contents behind.awaited in
     let caught : IsCaughtUp t mid.walk leaf = walked.caught_up nothing.still nothing.silent leaf among in
     let position : slice_index (positions_of old) leaf ≡ length (t.seen (s.source at)) = rw ((walked.stays nothing.still).1, stepped.same.first, stepped.looked.source) at caught.position in
     let count : t.count (s.source at) ≡ length (t.seen (s.source at)) = rw (stepped.same.first, stepped.looked.source) at caught.count in

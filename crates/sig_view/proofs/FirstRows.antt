@@ -7,8 +7,6 @@ use Rattle.sig_diff.specs.Contents.{kind_of, list_in}
 use Rattle.sig_diff.specs.declared.contents.Content.{Content}
 use Rattle.sig_diff.specs.declared.contents.Content.TheVariants.{Cell, Vector, Map}
 use Rattle.sig_diff.specs.declared.contents.Kind.{Kind}
-use Rattle.sig_expr.specs.Leaves.{leaves, numbered}
-use Rattle.sig_expr.specs.Trees.{ViewTree}
 use Rattle.sig_hist.proofs.Entries.{within_cap, IsInOrder}
 use Rattle.sig_hist.proofs.Telling.{kind_edited, kind_state}
 use Rattle.sig_hist.specs.Changes.{edited, size_of}
@@ -16,18 +14,11 @@ use Rattle.sig_hist.specs.Histories.{state}
 use Rattle.sig_hist.specs.OneThread.{no_source}
 use Rattle.sig_hist.specs.Ports.{IsSoundPort, PortState}
 use Rattle.sig_hist.specs.declared.edits.Entry.{Entry}
-use Rattle.sig_view.proofs.OneLeaf.{numbered_built, one_leaf}
 use Rattle.sig_view.proofs.Staying.{source_of_leaf}
-use Rattle.sig_view.specs.Built.{IsBuilt}
 use Rattle.sig_view.specs.Fetching.{AreFetched, content_in, is_missing, is_nothing}
 use Rattle.sig_view.specs.Flow.{state_at}
 use Rattle.sig_view.specs.SoundRows.{contents_at, leaf_source}
 use Rattle.sig_view.specs.Walking.{seen_source, seen_sources}
-
--- ---- the one leaf
-
-pub same_leaves : {L : Type 0} (view : ViewTree L) → IsBuilt view → length (leaves (numbered view)) ≡ length (leaves view)
-same_leaves view is = one_leaf (numbered view) (numbered_built view is) ∙ sym (one_leaf view is)
 
 -- ---- no list is too long
 

@@ -13,10 +13,10 @@ use Rattle.sig_diff.specs.declared.contents.Content.TheVariants.{Cell, Vector, M
 use Rattle.sig_diff.specs.declared.contents.Kind.{Kind}
 use Rattle.sig_diff.specs.declared.map_differences.MapDiff.{MapDiff}
 use Rattle.sig_diff.specs.declared.map_differences.MapDiff.TheVariants as changed
-use Rattle.sig_expr.specs.Functions.{image}
-use Rattle.sig_expr.specs.Scratch.{entries_of, list_of, value_of}
+use Rattle.sig_expr.specs.Functions.{image, passes}
+use Rattle.sig_expr.specs.Scratch.{entries_of, list_of, lists_of, signals_of, value_of}
 use Rattle.sig_expr.specs.Shows.{shows}
-use Rattle.sig_expr.specs.Trees.{MapTree, map_source, SigTree, cell, mapped_signal, deduped, length_of, total_of, ViewTree, signal_view, vector_view, map_view, entries_view, tagged_view}
+use Rattle.sig_expr.specs.Trees.{MapTree, map_source, SigTree, cell, mapped_signal, deduped, switched, length_of, total_of, VecTree, vector, mapped, filtered, filtered_by, mapped_by, sorted, picked, SigTrees, no_signals, more_signals, VecTrees, no_lists, more_lists, ViewTree, signal_view, vector_view, map_view, entries_view, tagged_view}
 use Rattle.sig_expr.specs.declared.shown.Shown.{Shown}
 use Rattle.sig_expr.specs.declared.shown.Shown.TheVariants as shown
 use Rattle.sig_hist.proofs.Telling.{kind_state}
@@ -27,9 +27,10 @@ use Rattle.sig_hist.specs.declared.edits.Edit.{Edit}
 use Rattle.sig_hist.specs.declared.edits.Edit.TheVariants.{Put, Delete, Load, Wipe}
 use Rattle.sig_hist.specs.declared.edits.Entry.{Entry}
 use Rattle.sig_ops.specs.Signals.{given}
-use Rattle.sig_view.proofs.Turning.{behind_is, flow_leads}
-use Rattle.sig_view.specs.Built.{IsBuilt, IsMapBuilt, IsSignalBuilt}
-use Rattle.sig_view.specs.Flow.{Way, before, flow, map_flow, new, old, passed, value_flow}
+use Rattle.sig_view.proofs.ByClass.{EachGoes, no_part, one_part, SignalsGo, filter_by_leads, map_by_leads, pick_leads, switch_leads}
+use Rattle.sig_view.proofs.Turning.{Leads, behind_is, entering_leads, filter_keeps_up, map_leads, sorted_keeps_up, through_leads}
+use Rattle.sig_view.specs.Built.{AreListsBuilt, AreSignalsBuilt, IsBuilt, IsListBuilt, IsMapBuilt, IsSignalBuilt}
+use Rattle.sig_view.specs.Flow.{Way, before, flow, list_flow, list_flows, map_flow, new, old, passed, value_flow, value_flows}
 use Rattle.sig_view.specs.SoundRows.{IsLawfulBody, IsShownBy, shown_after, without_tags}
 
 -- ---- maps
@@ -143,13 +144,40 @@ dedupe_leads (Some x) last = given_leads last x (int_eq last x) refl
 -- ---- views
 
 module _ {L : Type 0} (way : L → Way) (ahead : (leaf : L) → (way leaf).from ≤ (way leaf).to) where
-  pub signal_leads : (e : SigTree L) → IsSignalBuilt e → value_of (new way) e ≡ unwrap_or (value_flow way e) (value_of (old way) e)
-  signal_leads (cell leaf) is = rw (behind_is (way leaf) (ahead leaf)) (number_entering_leads (before (way leaf)) (way leaf).source.plan.cap (passed (way leaf)))
-  signal_leads (mapped_signal f e) is = ap (image f) (signal_leads e is) ∙ image_leads (image f) (value_flow way e) (value_of (old way) e)
-  signal_leads (deduped e) is = signal_leads e is ∙ dedupe_leads (value_flow way e) (value_of (old way) e)
-  signal_leads (length_of e) is = given_leads (pos (length (list_of (old way) e))) (pos (length (list_of (new way) e))) _ refl
-  signal_leads (total_of e) is = given_leads (clamped (total (list_of (old way) e))) (clamped (total (list_of (new way) e))) _ refl
-  signal_leads _ is = absurd is
+  mutual
+    -- a list
+    pub flow_leads : (e : VecTree L) → IsListBuilt e → Leads (list_of (old way) e) (list_flow way e) (list_of (new way) e)
+    flow_leads (vector leaf) is = rw (behind_is (way leaf) (ahead leaf)) (entering_leads (before (way leaf)) (way leaf).source.plan.cap (passed (way leaf)))
+    flow_leads (mapped f e) is = map_leads (image f) (list_of (old way) e) (list_flow way e) (list_of (new way) e) (flow_leads e is)
+    flow_leads (filtered p e) is = through_leads (filter_keeps_up (passes p)) (list_of (old way) e) (list_flow way e) (list_of (new way) e) (flow_leads e is)
+    flow_leads (sorted f e) is = through_leads (sorted_keeps_up (image f)) (list_of (old way) e) (list_flow way e) (list_of (new way) e) (flow_leads e is)
+    flow_leads (filtered_by e bank) is =
+        filter_by_leads (list_of (old way) e) (list_flow way e) (list_of (new way) e) (signals_of (old way) bank) (value_flows way bank) (signals_of (new way) bank) (flow_leads e is.0) (signals_lead bank is.1)
+    flow_leads (mapped_by e bank) is =
+        map_by_leads (list_of (old way) e) (list_flow way e) (list_of (new way) e) (signals_of (old way) bank) (value_flows way bank) (signals_of (new way) bank) (flow_leads e is.0) (signals_lead bank is.1)
+    flow_leads (picked e bank) is =
+        pick_leads (value_of (old way) e) (value_flow way e) (value_of (new way) e) (lists_of (old way) bank) (list_flows way bank) (lists_of (new way) bank) (signal_leads e is.0) (lists_lead bank is.1)
+    flow_leads _ is = absurd is
+
+    -- a signal
+    pub signal_leads : (e : SigTree L) → IsSignalBuilt e → value_of (new way) e ≡ unwrap_or (value_flow way e) (value_of (old way) e)
+    signal_leads (cell leaf) is = rw (behind_is (way leaf) (ahead leaf)) (number_entering_leads (before (way leaf)) (way leaf).source.plan.cap (passed (way leaf)))
+    signal_leads (mapped_signal f e) is = ap (image f) (signal_leads e is) ∙ image_leads (image f) (value_flow way e) (value_of (old way) e)
+    signal_leads (deduped e) is = signal_leads e is ∙ dedupe_leads (value_flow way e) (value_of (old way) e)
+    signal_leads (switched e bank) is =
+        switch_leads (value_of (old way) e) (value_flow way e) (value_of (new way) e) (signals_of (old way) bank) (value_flows way bank) (signals_of (new way) bank) (signal_leads e is.0) (signals_lead bank is.1)
+    signal_leads (length_of e) is = given_leads (pos (length (list_of (old way) e))) (pos (length (list_of (new way) e))) _ refl
+    signal_leads (total_of e) is = given_leads (clamped (total (list_of (old way) e))) (clamped (total (list_of (new way) e))) _ refl
+    signal_leads _ is = absurd is
+
+    -- the parts of a bank
+    pub signals_lead : (bank : SigTrees L) → AreSignalsBuilt bank → SignalsGo (signals_of (old way) bank) (value_flows way bank) (signals_of (new way) bank)
+    signals_lead no_signals is = no_part
+    signals_lead (more_signals e bank) is = one_part (value_of (old way) e) (value_flow way e) (value_of (new way) e) (signal_leads e is.0) (signals_lead bank is.1)
+
+    pub lists_lead : (bank : VecTrees L) → AreListsBuilt bank → EachGoes (Leads {T = ℤ}) (lists_of (old way) bank) (list_flows way bank) (lists_of (new way) bank)
+    lists_lead no_lists is = no_part
+    lists_lead (more_lists e bank) is = one_part (list_of (old way) e) (list_flow way e) (list_of (new way) e) (flow_leads e is.0) (lists_lead bank is.1)
 
   pub map_flow_leads : (m : MapTree L) → IsMapBuilt m → MapLeads (entries_of (old way) m) (map_flow way m) (entries_of (new way) m)
   map_flow_leads (map_source leaf) is = rw (behind_is (way leaf) (ahead leaf)) (map_entering_leads (before (way leaf)) (way leaf).source.plan.cap (passed (way leaf)))
@@ -166,7 +194,7 @@ module _ {L : Type 0} (way : L → Way) (ahead : (leaf : L) → (way leaf).from 
       record { lawful = tt; replay = rw same (ap shown.Signal (sym (signal_leads e is))) }
   view_leads (vector_view e) (shown.Vector items) is shows_it =
       let same : items ≡ list_of (old way) e = cc in
-      let leads = flow_leads way ahead e is in
+      let leads = flow_leads e is in
       record { lawful = rw same leads.lawful; replay = rw same (ap shown.Vector leads.replay) }
   view_leads (map_view m) (shown.Map pairs) is shows_it =
       let same : pairs ≡ entries_of (old way) m = cc in

@@ -1,7 +1,10 @@
 -- No list on the way of a view is longer than the caps of its sources allow.
-use Rattle.std.proofs.Common.{◌≡◌, ℕ, zero, suc, ◌+◌, ◌≤◌, ℤ, List, [], ◌∷◌, ◌++◌, length, take, map, filter, filter_map, get_or, slice_index, pos, cond, Bool, true, false, ◌&&◌, not, Option, None, Some, refl, arith, le_trans}
+use Rattle.std.proofs.Common.{◌≡◌, ℕ, zero, suc, ◌+◌, ◌≤◌, ℤ, List, [], ◌∷◌, ◌++◌, length, take, map, filter_map, get_or, slice_index, pos, cond, Bool, true, false, ◌&&◌, not, Option, None, Some, refl, arith, le_trans}
 use Rattle.std.specs.List.{flat_map}
 use Rattle.std.specs.Option.{option_map_or, option_to_list}
+use Rattle.sig_bank.specs.Banks.{BySignals}
+use Rattle.sig_bank.specs.Tables.{pick_gives}
+use Rattle.sig_diff.specs.Choosing.{chosen, is_let_in, list_for, raised_by}
 use Rattle.sig_diff.specs.Contents.{list_in}
 use Rattle.sig_diff.specs.Differences.{applied, is_lawful}
 use Rattle.sig_diff.specs.Replaying.{AreLawful, StaysShort}
@@ -10,8 +13,8 @@ use Rattle.sig_diff.specs.declared.contents.Content.TheVariants.{Cell, Vector, M
 use Rattle.sig_diff.specs.declared.differences.VecDiff.{VecDiff}
 use Rattle.sig_diff.specs.declared.differences.VecDiff.TheVariants.{Replace}
 use Rattle.sig_expr.specs.Functions.{image, passes}
-use Rattle.sig_expr.specs.Scratch.{list_of}
-use Rattle.sig_expr.specs.Trees.{VecTree, vector, mapped, filtered}
+use Rattle.sig_expr.specs.Scratch.{list_of, lists_of, signals_of, value_of}
+use Rattle.sig_expr.specs.Trees.{VecTree, vector, mapped, filtered, filtered_by, mapped_by, sorted, picked, VecTrees, no_lists, more_lists}
 use Rattle.sig_hist.proofs.Entries.{within_cap}
 use Rattle.sig_hist.specs.Changes.{Change, after, change_of, edited, is_long, size_of}
 use Rattle.sig_hist.specs.Entering.{as_list, is_far, list_entering}
@@ -21,16 +24,16 @@ use Rattle.sig_hist.specs.Ports.{IsSoundPort, PortState}
 use Rattle.sig_hist.specs.Sources.{Source}
 use Rattle.sig_hist.specs.declared.edits.Edit.{Edit}
 use Rattle.sig_hist.specs.declared.edits.Entry.{Entry}
-use Rattle.sig_ops.specs.FilterTurns.{filter_is_short, filter_turns}
-use Rattle.sig_ops.specs.MapTurns.{map_is_short, map_turns}
-use Rattle.sig_ops.specs.Tables.{filter_gives, map_gives}
+use Rattle.sig_ops.specs.Tables.{map_gives}
 use Rattle.sig_ops.specs.TurnSteps.{stays_append}
 use Rattle.sig_view.proofs.Carrying.{held_before, list_is_built, never_back, same_sources}
+use Rattle.sig_view.proofs.ByClass.{EachGoes, no_part, one_part, GoesBySignals, IsGivenOrKept, SignalsGo, by_signals_lead, chosen_goes, filter_goes_by_signals, map_goes_by_signals, pick_turns}
+use Rattle.sig_view.proofs.Leading.{flow_leads, signal_leads, signals_lead}
 use Rattle.sig_view.proofs.Staying.{same_plan}
-use Rattle.sig_view.proofs.Turning.{flow_leads}
-use Rattle.sig_view.specs.Built.{IsListBuilt}
-use Rattle.sig_view.specs.Flow.{Way, before, list_flow, old, passed, state_at, through}
-use Rattle.sig_view.specs.Longest.{vec_longest}
+use Rattle.sig_view.proofs.Turning.{KeepsUp, Leads, filter_keeps_up, map_keeps_up, map_leads, map_through, sorted_keeps_up, through_follows, through_leads}
+use Rattle.sig_view.specs.Built.{AreListsBuilt, IsListBuilt}
+use Rattle.sig_view.specs.Flow.{Way, before, by_signals, given_list, list_flow, list_flows, new, old, passed, state_at, through, value_flow}
+use Rattle.sig_view.specs.Longest.{vec_longest, vecs_longest}
 use Rattle.sig_view.specs.Nodes.{ListOps, list_tree}
 use Rattle.sig_view.specs.SoundRows.{GoOn, contents_at, leaf_source, ways}
 use Rattle.sig_view.specs.Walking.{CanWalk, HasGone, HasLooked, Progress, cap_at, seen_source, seen_sources, sources_in}
@@ -108,52 +111,94 @@ entering_short (Cell x) cap entries within = tt
 entering_short (Vector items) cap entries within = far_short items cap entries (is_far entries) within
 entering_short (Map pairs) cap entries within = tt
 
--- ---- maps and filters
+-- ---- operators
+
+-- a list is short, and stays so with each of its differences
+pub record GoesShort {T : Type 0} (most : ℕ) (xs : List T) (diffs : List (VecDiff T)) : Type 0 where
+  pub before : length xs ≤ most
+  pub stays : StaysShort most xs diffs
 
 module _ {T : Type 0} (most : ℕ) where
   stays_for_more : (more : ℕ) → most ≤ more → (xs : List T) (diffs : List (VecDiff T)) → StaysShort most xs diffs → StaysShort more xs diffs
   stays_for_more more larger xs [] short = tt
   stays_for_more more larger xs (diff ∷ diffs) short = λ taken. (le_trans (short taken).0 larger, stays_for_more more larger (applied xs diff) diffs (short taken).1)
 
-  filter_short : (test : T → Bool) (xs : List T) (diffs : List (VecDiff T)) → AreLawful xs diffs → length xs ≤ most → StaysShort most xs diffs → StaysShort most (filter test xs) (through (filter_gives test) xs diffs)
-  filter_short test xs [] lawful within short = tt
-  filter_short test xs (diff ∷ diffs) lawful within short =
-      let kept = short lawful.0 in
-      let turn = filter_turns test xs diff lawful.0 in
-      stays_append most (filter test xs) (filter_gives test xs diff) (through (filter_gives test) (applied xs diff) diffs)
-      (turn.short most (le_trans (filter_is_short test xs) within) (le_trans (filter_is_short test (applied xs diff)) kept.0)) (rw turn.replay (filter_short test (applied xs diff) diffs lawful.1 kept.0 kept.1))
+  pub short_after : (xs : List T) (diffs : List (VecDiff T)) (ys : List T) → Leads xs diffs ys → GoesShort most xs diffs → length ys ≤ most
+  short_after xs [] ys leads short = rw (← leads.replay) short.before
+  short_after xs (diff ∷ diffs) ys leads short =
+      let kept = short.stays leads.lawful.0 in
+      short_after (applied xs diff) diffs ys (record { lawful = leads.lawful.1; replay = leads.replay }) (record { before = kept.0; stays = kept.1 })
 
-  map_short : {U : Type 0} (f : T → U) (xs : List T) (diffs : List (VecDiff T)) → AreLawful xs diffs → length xs ≤ most → StaysShort most xs diffs → StaysShort most (map f xs) (flat_map (map_gives f) diffs)
-  map_short f xs [] lawful within short = tt
-  map_short f xs (diff ∷ diffs) lawful within short =
-      let kept = short lawful.0 in
-      let turn = map_turns f xs diff lawful.0 in
-      stays_append most (map f xs) (map_gives f diff) (flat_map (map_gives f) diffs)
-      (turn.short most (le_trans (map_is_short f xs) within) (le_trans (map_is_short f (applied xs diff)) kept.0)) (rw turn.replay (map_short f (applied xs diff) diffs lawful.1 kept.0 kept.1))
+  -- an operator's view, too
+  through_short : {U : Type 0} {gives : List T → VecDiff T → List (VecDiff U)} {view : List T → List U} → KeepsUp gives view → (xs : List T) (diffs : List (VecDiff T)) → AreLawful xs diffs →
+      GoesShort most xs diffs → GoesShort most (view xs) (through gives xs diffs)
+  through_short keeps_up xs diffs lawful below = record {
+    before = le_trans (keeps_up.is_short xs) below.before;
+    stays = (through_follows keeps_up xs diffs lawful).short most below.before below.stays;
+  }
 
-module _ {L : Type 0} (way : L → Way) (ahead : (leaf : L) → (way leaf).from ≤ (way leaf).to) (short : (leaf : L) → length (list_in (before (way leaf))) ≤ (way leaf).source.plan.cap) where
+  map_short : {U : Type 0} (f : T → U) (xs : List T) (diffs : List (VecDiff T)) → AreLawful xs diffs → GoesShort most xs diffs → GoesShort most (map f xs) (flat_map (map_gives f) diffs)
+  map_short f xs diffs lawful below = rw (map_through f xs diffs) (through_short (map_keeps_up f) xs diffs lawful below)
+
+module _ (most : ℕ) where
+  -- the view of a list by signals where its list and then its signals go on
+  by_signals_short : {gives : BySignals → ℕ → ℤ → List (VecDiff ℤ)} {view : BySignals → List ℤ} (goes : GoesBySignals gives view) (ys : List ℤ) {olds news : List ℤ} {values : List (Option ℤ)} →
+      length ys ≤ most → SignalsGo olds values news → (xs : List ℤ) (diffs : List (VecDiff ℤ)) → Leads xs diffs (view (record { items = ys; signals = olds })) → GoesShort most xs diffs →
+      GoesShort most xs (diffs ++ by_signals gives (record { items = ys; signals = olds }) 0 values)
+  by_signals_short goes ys few signals_go xs diffs leads below = record {
+    before = below.before;
+    stays = stays_append most xs diffs _ below.stays (rw leads.replay (stays_for_more (length ys) most few _ _ (by_signals_lead goes ys signals_go).stays));
+  }
+
+  -- a part of a bank; what it becomes doesn't matter
+  abbrev PartShort : List ℤ → List (VecDiff ℤ) → List ℤ → Type 0
+  PartShort xs diffs ys = GoesShort most xs diffs
+
+  pick_short : (was : ℤ) (given : Option ℤ) (is : ℤ) (olds : List (List ℤ)) (flows : List (List (VecDiff ℤ))) (news : List (List ℤ)) → IsGivenOrKept was given is → EachGoes PartShort olds flows news →
+      GoesShort most (list_for olds was) (given_list (pick_gives (record { chooser = was; parts = olds })) given ++ chosen flows is [])
+  pick_short was given is olds flows news same lists_short =
+      let part = λ (chooser : ℤ). chosen_goes {Goes = PartShort} [] [] (record { before = omega arith; stays = tt }) olds flows news chooser lists_short in
+      let turn = pick_turns olds was given is same in
+      record {
+        before = (part was).before;
+        stays = stays_append most (list_for olds was) _ (chosen flows is []) (turn.short most (part was).before (part is).before) (rw turn.replay (part is).stays);
+      }
+
+-- ---- lists
+
+module _ {L : Type 0} (way : L → Way) (ahead : (leaf : L) → (way leaf).from ≤ (way leaf).to) (short : (leaf : L) → length (list_in (before (way leaf))) ≤ (way leaf).source.plan.cap) (most : ℕ) where
   abbrev cap : L → ℕ
   cap leaf = (way leaf).source.plan.cap
 
-  record FlowsShort (e : VecTree L) : Type 0 where
-    within : length (list_of (old way) e) ≤ vec_longest cap e
-    stays : StaysShort (vec_longest cap e) (list_of (old way) e) (list_flow way e)
+  mutual
+    flows_short : (e : VecTree L) → IsListBuilt e → vec_longest cap e ≤ most → GoesShort most (list_of (old way) e) (list_flow way e)
+    flows_short (vector leaf) is few = record {
+      before = le_trans (short leaf) few;
+      stays = stays_for_more (cap leaf) most few _ _ (entering_short (before (way leaf)) (cap leaf) (passed (way leaf)) (short leaf));
+    }
+    flows_short (mapped f e) is few = map_short most (image f) (list_of (old way) e) (list_flow way e) (flow_leads way ahead e is).lawful (flows_short e is few)
+    flows_short (filtered p e) is few = through_short most (filter_keeps_up (passes p)) (list_of (old way) e) (list_flow way e) (flow_leads way ahead e is).lawful (flows_short e is few)
+    flows_short (sorted f e) is few = through_short most (sorted_keeps_up (image f)) (list_of (old way) e) (list_flow way e) (flow_leads way ahead e is).lawful (flows_short e is few)
+    flows_short (filtered_by e bank) is few =
+        let below = flows_short e is.0 (omega (arith, few)) in
+        let leads = flow_leads way ahead e is.0 in
+        by_signals_short most filter_goes_by_signals (list_of (new way) e) (short_after most _ _ _ leads below) (signals_lead way ahead bank is.1) _ _
+        (through_leads (filter_keeps_up (is_let_in (signals_of (old way) bank))) (list_of (old way) e) (list_flow way e) (list_of (new way) e) leads)
+        (through_short most (filter_keeps_up (is_let_in (signals_of (old way) bank))) (list_of (old way) e) (list_flow way e) leads.lawful below)
+    flows_short (mapped_by e bank) is few =
+        let below = flows_short e is.0 (omega (arith, few)) in
+        let leads = flow_leads way ahead e is.0 in
+        by_signals_short most map_goes_by_signals (list_of (new way) e) (short_after most _ _ _ leads below) (signals_lead way ahead bank is.1) _ _
+        (map_leads (raised_by (signals_of (old way) bank)) (list_of (old way) e) (list_flow way e) (list_of (new way) e) leads)
+        (map_short most (raised_by (signals_of (old way) bank)) (list_of (old way) e) (list_flow way e) leads.lawful below)
+    flows_short (picked e bank) is few =
+        pick_short most (value_of (old way) e) (value_flow way e) (value_of (new way) e) (lists_of (old way) bank) (list_flows way bank) (lists_of (new way) bank) (signal_leads way ahead e is.0) (lists_short bank is.1 (omega (arith, few)))
+    flows_short _ is few = absurd is
 
-  flows_short : (e : VecTree L) → IsListBuilt e → FlowsShort e
-  flows_short (vector leaf) is = record { within = short leaf; stays = entering_short (before (way leaf)) (cap leaf) (passed (way leaf)) (short leaf) }
-  flows_short (mapped f e) is =
-      let below = flows_short e is in
-      record {
-        within = le_trans (map_is_short (image f) (list_of (old way) e)) below.within;
-        stays = map_short (vec_longest cap e) (image f) (list_of (old way) e) (list_flow way e) (flow_leads way ahead e is).lawful below.within below.stays;
-      }
-  flows_short (filtered p e) is =
-      let below = flows_short e is in
-      record {
-        within = le_trans (filter_is_short (passes p) (list_of (old way) e)) below.within;
-        stays = filter_short (vec_longest cap e) (passes p) (list_of (old way) e) (list_flow way e) (flow_leads way ahead e is).lawful below.within below.stays;
-      }
-  flows_short _ is = absurd is
+    lists_short : (bank : VecTrees L) → AreListsBuilt bank → vecs_longest cap bank ≤ most → EachGoes (PartShort most) (lists_of (old way) bank) (list_flows way bank) (lists_of (new way) bank)
+    lists_short no_lists is few = no_part
+    lists_short (more_lists e bank) is few =
+        one_part (list_of (old way) e) (list_flow way e) (list_of (new way) e) (flows_short e is.0 (omega (arith, few))) (lists_short bank is.1 (omega (arith, few)))
 
 -- ---- walks
 
@@ -164,13 +209,16 @@ module _ (s t : PortState) (looked : HasLooked s t) where
   cap_stays first (suc count) (suc leaf) = cap_stays (first + 1) count leaf
 
 module _ (s t : PortState) (old new : Progress) (can : CanWalk s old) (gone : HasGone s t old new) where
-  same_caps : cap_at (sources_in t new) ≡ cap_at (sources_in s old)
+  pub same_caps : cap_at (sources_in t new) ≡ cap_at (sources_in s old)
   same_caps = rw (same_sources s t old new can gone) (λ i leaf. cap_stays s t gone.looked old.first (length old.positions) leaf i)
 
-  -- the list that an operator stands for stays short on the way
+  -- the list that an operator stands for is short, and stays so on the way
+  pub goes_short : GoOn old.positions new.positions → (ops : ListOps) (most : ℕ) → vec_longest (cap_at (sources_in s old)) (list_tree ops) ≤ most →
+      GoesShort most (list_of (contents_at (sources_in s old) old.positions) (list_tree ops)) (list_flow (ways (sources_in t new) old.positions new.positions) (list_tree ops))
+  goes_short goes_on ops most few =
+      let short : (leaf : ℕ) → IsShort (leaf_source (sources_in t new) leaf) = λ leaf. seen_short t gone.can.sound new.first (length new.positions) leaf in
+      rw (← held_before s t old new can gone) (flows_short (ways (sources_in t new) old.positions new.positions) (never_back s t old new can gone goes_on) (λ leaf. short leaf (slice_index old.positions leaf)) most (list_tree ops) (list_is_built ops) (rw same_caps few))
+
   pub carries_short : GoOn old.positions new.positions → (ops : ListOps) (most : ℕ) → vec_longest (cap_at (sources_in s old)) (list_tree ops) ≤ most →
       StaysShort most (list_of (contents_at (sources_in s old) old.positions) (list_tree ops)) (list_flow (ways (sources_in t new) old.positions new.positions) (list_tree ops))
-  carries_short goes_on ops most few =
-      let short : (leaf : ℕ) → IsShort (leaf_source (sources_in t new) leaf) = λ leaf. seen_short t gone.can.sound new.first (length new.positions) leaf in
-      let flows = flows_short (ways (sources_in t new) old.positions new.positions) (never_back s t old new can gone goes_on) (λ leaf. short leaf (slice_index old.positions leaf)) (list_tree ops) (list_is_built ops) in
-      rw (← held_before s t old new can gone) (stays_for_more (vec_longest (cap_at (sources_in t new)) (list_tree ops)) most (rw same_caps few) _ _ flows.stays)
+  carries_short goes_on ops most few = (goes_short goes_on ops most few).stays

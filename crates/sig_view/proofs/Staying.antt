@@ -50,10 +50,10 @@ module _ (s t : PortState) (looked : HasLooked s t) where
   pub longer : (leaf : ℕ) → length (seen_source s leaf).history ≤ length (seen_source t leaf).history
   longer leaf = rw looked.source (seen_no_less s (s.source leaf) (t.seen (s.source leaf)) (t.count (s.source leaf)) (looked.seen (s.source leaf)))
 
-  same_entries : (leaf position : ℕ) → position ≤ length (seen_source s leaf).history → take position (seen_source t leaf).history ≡ take position (seen_source s leaf).history
+  pub same_entries : (leaf position : ℕ) → position ≤ length (seen_source s leaf).history → take position (seen_source t leaf).history ≡ take position (seen_source s leaf).history
   same_entries leaf position within = rw looked.source (same_start position (s.seen (s.source leaf)) (t.seen (s.source leaf)) within (looked.seen (s.source leaf)).front)
 
-  same_state : (leaf position : ℕ) → position ≤ length (seen_source s leaf).history → state_at (seen_source t leaf) position ≡ state_at (seen_source s leaf) position
+  pub same_state : (leaf position : ℕ) → position ≤ length (seen_source s leaf).history → state_at (seen_source t leaf) position ≡ state_at (seen_source s leaf) position
   same_state leaf position within = rw (same_plan leaf, same_entries leaf position within) refl
 
   pub still_within : (first count : ℕ) (positions : List ℕ) → AreWithin (seen_sources s first count) positions → AreWithin (seen_sources t first count) positions

@@ -1,22 +1,23 @@
 -- A walk over all leaves after the first row: what it needs, and what it leaves.
-use Rattle.std.proofs.Common.{◌≡◌, ◌∙◌, ℕ, zero, suc, ◌+◌, ◌<◌, ◌≤◌, List, [], ◌∷◌, length, slice_index, true, false, All, refl, sym, ap, arith, le_trans}
+use Rattle.std.proofs.Common.{◌≡◌, ◌∙◌, ℕ, suc, ◌+◌, ◌<◌, ◌≤◌, List, [], ◌∷◌, length, slice_index, true, false, refl, ap, arith, le_trans}
 use Rattle.sig_diff.specs.declared.contents.Content.{Content}
+use Rattle.sig_expr.specs.Awaited.{awaits}
 use Rattle.sig_expr.specs.Bounds.{cap_of}
 use Rattle.sig_expr.specs.Leaves.{leaves}
 use Rattle.sig_expr.specs.Shapes.{view_tree}
 use Rattle.sig_expr.specs.Trees.{ViewTree}
 use Rattle.sig_expr.specs.declared.shown.Shown.{Shown}
 use Rattle.sig_hist.specs.Ports.{PortState}
-use Rattle.sig_hist.specs.Sources.{Source, is_among}
+use Rattle.sig_hist.specs.Sources.{AreDistinct, Source}
 use Rattle.sig_view.proofs.Leading.{view_leads}
-use Rattle.sig_view.proofs.OneLeaf.{awaits_all, numbered_built, numbered_leaves, numbered_short, one_leaf}
+use Rattle.sig_view.proofs.Composing.{go_on_at}
+use Rattle.sig_view.proofs.Numbering.{has_leaves as all_leaves, leaves_differ, numbered_built, view_short, within_caps}
 use Rattle.sig_view.proofs.Staying.{same_contents, source_of_leaf}
-use Rattle.sig_view.specs.Built.{IsBuilt}
 use Rattle.sig_view.specs.Flow.{flow}
 use Rattle.sig_view.specs.GoingOn.{HasLost, HasStepped, failed_now, ops_of}
 use Rattle.sig_view.specs.Longest.{longest}
 use Rattle.sig_view.specs.Nodes.{ViewStands, view_tree_of}
-use Rattle.sig_view.specs.SoundRows.{GoOn, IsNextRow, IsShownBy, contents_at, is_awaited, ways}
+use Rattle.sig_view.specs.SoundRows.{GoOn, IsNextRow, IsShownBy, contents_at, ways}
 use Rattle.sig_view.specs.Tasks.{CanPoll, Holds, IsReady, IsTask, contents_of, ended, failed, following, is_following, positions_of, rows_given, sources_of, view_of}
 use Rattle.sig_view.specs.Walking.{CanWalk, HasGone, HasLeaves, HasLooked, HasWalked, Progress, cap_at, set_out, sources_in}
 use Rattle.sig_view.specs.declared.rows.Body.{Body}
@@ -53,38 +54,24 @@ underway (Failed rows) is = cc
 
 -- ---- the leaves of a task
 
-all_one : (P : ℕ → Type 0) (x : ℕ) → P x → All P (x ∷ [])
-all_one P x here zero default within = here
-all_one P x here (suc k) default within = absurd (omega (arith, within))
-
 module _ (task : ViewTask) (is : IsTask task) where
-  view_built : IsBuilt (view_of task)
-  view_built = numbered_built (view_tree task.view) is.built
-
-  only_leaf : leaves (view_of task) ≡ 0 ∷ []
-  only_leaf = numbered_leaves (view_tree task.view) is.built
-
-  has_one : length (positions_of task) ≡ 1
-  has_one = is.leaf_each ∙ one_leaf (view_tree task.view) is.built
-
-  pub among_all : (leaf : ℕ) → leaf < length (positions_of task) → is_among leaf (leaves (view_of task)) ≡ true
-  among_all leaf within = let only : leaf ≡ 0 = omega (arith, within, has_one) in rw (only_leaf, only) refl
-
-  -- all leaves are awaited
-  pub awaited_is : (sources : List Source) (positions : List ℕ) (leaf : ℕ) → is_awaited (view_of task) sources positions leaf ≡ is_among leaf (leaves (view_of task))
-  awaited_is sources positions leaf = ap (is_among leaf) (awaits_all (contents_at sources positions) (view_of task) view_built)
-
   pub has_leaves : (tree : ViewTree ℕ) → tree ≡ view_of task → HasLeaves task.walk (leaves tree)
-  has_leaves tree same = rw (same, only_leaf) (all_one (λ leaf. leaf < length (positions_of task)) 0 (omega (arith, has_one)))
+  has_leaves tree same = rw same (all_leaves (view_tree task.view) (length (positions_of task)) is.leaf_each)
+
+  pub are_apart : (tree : ViewTree ℕ) → tree ≡ view_of task → AreDistinct (leaves tree)
+  are_apart tree same = rw same (leaves_differ (view_tree task.view))
 
   pub short_now : (s : PortState) (tree : ViewTree ℕ) → CanPoll s task.view task.caps.value task.walk.first → tree ≡ view_of task → longest (cap_at (sources_of s task)) tree ≤ 65536
   short_now s tree port same =
-      let first : ℕ = task.walk.first in
-      let within : 0 < length (positions_of task) = omega (arith, has_one) in
-      let leaf : 0 < length (leaves (view_tree task.view)) = omega (arith, one_leaf (view_tree task.view) is.built) in
-      let source : cap_at (sources_of s task) 0 ≡ (s.plan (s.source (first + 0))).cap = ap (λ (source : Source). source.plan.cap) (source_of_leaf s first (length (positions_of task)) 0 within) in
-      let cap : cap_at (sources_of s task) 0 ≤ cap_of task.caps.value (slice_index (leaves (view_tree task.view)) 0) = rw source (port.within_caps 0 leaf) in
-      rw same (le_trans (numbered_short (cap_of task.caps.value) (cap_at (sources_of s task)) (view_tree task.view) is.built cap) is.short)
+      let view : ViewTree ℕ = view_tree task.view in
+      let caps : ℕ → ℕ = cap_of task.caps.value in
+      let others : ℕ → ℕ = cap_at (sources_of s task) in
+      let each : (leaf : ℕ) → leaf < length (leaves view) → others (0 + leaf) ≤ caps (slice_index (leaves view) leaf) = λ leaf within.
+      let here : 0 + leaf ≡ leaf = omega arith in
+      let source : others leaf ≡ (s.plan (s.source (task.walk.first + leaf))).cap =
+      ap (λ (source : Source). source.plan.cap) (source_of_leaf s task.walk.first (length (positions_of task)) leaf (omega (arith, within, is.leaf_each))) in
+      rw (here, source) (port.within_caps leaf within) in
+      rw same (le_trans (view_short caps others view (within_caps caps others 0 (leaves view) each)) is.short)
 
 -- ---- tasks that are ready
 
@@ -124,7 +111,7 @@ module _ (s t : PortState) (old : ViewTask) (walk : Progress) (stage : Stage) (f
   old_tree : view_tree_of (ops_of old.stage) ≡ view_of old
   old_tree = tree_held (contents_of s old) (view_of old) old.stage follows ready.holds
 
-  pub stepped : (body : Body) → HasWalked s t (set_out old.walk) walk (leaves (view_tree_of (ops_of old.stage))) →
+  pub stepped : (body : Body) → HasWalked s t (set_out old.walk) walk (awaits (contents_at (sources_in t walk) walk.positions) (view_tree_of (ops_of old.stage))) →
       body ≡ flow (ways (sources_in t walk) old.walk.positions walk.positions) (view_tree_of (ops_of old.stage)) →
       ViewStands (contents_at (sources_in t walk) walk.positions) (ops_of stage) → view_tree_of (ops_of stage) ≡ view_tree_of (ops_of old.stage) → following stage ≡ true → HasStepped s t old (moved_on old walk stage) body
   stepped body walked flow_is stands tree still = record {
@@ -168,13 +155,6 @@ go_on_length (old ∷ from) (new ∷ to) goes = ap suc (go_on_length from to goe
 go_on_length [] (new ∷ to) goes = absurd goes
 go_on_length (old ∷ from) [] goes = absurd goes
 
-go_on_at : (from to : List ℕ) → GoOn from to → (leaf : ℕ) → slice_index from leaf ≤ slice_index to leaf
-go_on_at [] [] goes leaf = omega arith
-go_on_at (old ∷ from) (new ∷ to) goes zero = goes.0
-go_on_at (old ∷ from) (new ∷ to) goes (suc leaf) = go_on_at from to goes.1 leaf
-go_on_at [] (new ∷ to) goes leaf = absurd goes
-go_on_at (old ∷ from) [] goes leaf = absurd goes
-
 module _ (s t : PortState) (old new : ViewTask) (body : Body) (ready : IsReady s old) (stepped : HasStepped s t old new body) where
   -- the leaves hold what they held
   pub before_is : contents_at (sources_of t new) (positions_of old) ≡ contents_of s old
@@ -191,7 +171,7 @@ module _ (s t : PortState) (old new : ViewTask) (body : Body) (ready : IsReady s
         within = stepped.ready.can.within;
         goes_on = walked.goes_on;
         moves = walked.moves moved refl;
-        awaited = λ leaf other. walked.others leaf (sym (awaited_is old ready.is_task (sources_of t new) (positions_of new) leaf) ∙ other);
+        awaited = walked.others;
         flow = stepped.flow_is;
         lawful = rw stepped.flow_is leads.lawful;
         replay = rw stepped.flow_is leads.replay;

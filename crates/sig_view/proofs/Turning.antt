@@ -7,16 +7,14 @@ use Rattle.std.specs.List.{flat_map}
 use Rattle.std.specs.Option.{option_map_or, option_to_list}
 use Rattle.sig_diff.proofs.Following.{are_taken_append}
 use Rattle.sig_diff.specs.Contents.{kind_of, list_in}
-use Rattle.sig_diff.specs.Differences.{applied, is_lawful}
+use Rattle.sig_diff.specs.Differences.{IsLawful, applied, is_lawful}
 use Rattle.sig_diff.specs.Replaying.{AreLawful, list_takes, replayed}
+use Rattle.sig_diff.specs.Sorting.{by_key, in_order}
 use Rattle.sig_diff.specs.declared.contents.Content.{Content}
 use Rattle.sig_diff.specs.declared.contents.Content.TheVariants.{Cell, Vector, Map}
 use Rattle.sig_diff.specs.declared.contents.Kind.{Kind}
 use Rattle.sig_diff.specs.declared.differences.VecDiff.{VecDiff}
 use Rattle.sig_diff.specs.declared.differences.VecDiff.TheVariants.{Replace}
-use Rattle.sig_expr.specs.Functions.{image, passes}
-use Rattle.sig_expr.specs.Scratch.{list_of}
-use Rattle.sig_expr.specs.Trees.{VecTree, vector, mapped, filtered}
 use Rattle.sig_hist.proofs.Entries.{state_append}
 use Rattle.sig_hist.proofs.Telling.{kind_state}
 use Rattle.sig_hist.specs.Changes.{Change, after, change_of, edited, is_long}
@@ -24,22 +22,30 @@ use Rattle.sig_hist.specs.Entering.{as_list, is_far, list_entering}
 use Rattle.sig_hist.specs.Histories.{changes_by, state}
 use Rattle.sig_hist.specs.declared.edits.Edit.{Edit}
 use Rattle.sig_hist.specs.declared.edits.Entry.{Entry}
-use Rattle.sig_ops.specs.FilterTurns.{filter_turns}
-use Rattle.sig_ops.specs.MapTurns.{map_turns}
+use Rattle.sig_ops.specs.FilterTurns.{filter_is_short, filter_turns}
+use Rattle.sig_ops.specs.FollowSteps.{follows}
+use Rattle.sig_ops.specs.Following.{Follows, all_given}
+use Rattle.sig_ops.specs.MapTurns.{map_is_short, map_turns}
 use Rattle.sig_ops.specs.Tables.{filter_gives, map_gives}
-use Rattle.sig_view.specs.Built.{IsListBuilt}
-use Rattle.sig_view.specs.Flow.{Way, before, behind, list_flow, new, old, passed, through}
+use Rattle.sig_ops.specs.Turns.{Turns}
+use Rattle.sig_sort.specs.Sorted.{sorted_gives}
+use Rattle.sig_sort.specs.SortedTurns.{sorted_is_short, sorted_turns}
+use Rattle.sig_view.specs.Flow.{Way, before, behind, passed, through}
 
 -- differences lead from one list to another: each is lawful at its turn, and their replay is the other
 pub record Leads {T : Type 0} (from : List T) (diffs : List (VecDiff T)) (to : List T) : Type 0 where
   pub lawful : AreLawful from diffs
   pub replay : replayed from diffs ≡ to
 
-leads_append : {T : Type 0} (from between to : List T) (diffs more : List (VecDiff T)) → Leads from diffs between → Leads between more to → Leads from (diffs ++ more) to
+pub leads_append : {T : Type 0} (from between to : List T) (diffs more : List (VecDiff T)) → Leads from diffs between → Leads between more to → Leads from (diffs ++ more) to
 leads_append from between to diffs more first later = record {
   lawful = are_taken_append list_takes applied from diffs more first.lawful (rw first.replay later.lawful);
   replay = fold-append applied from diffs more ∙ rw first.replay later.replay;
 }
+
+-- differences that turn one list into another lead from the one to the other
+pub turns_lead : {T : Type 0} (from to : List T) (diffs : List (VecDiff T)) → Turns from diffs to → Leads from diffs to
+turns_lead from to diffs turns = record { lawful = turns.lawful; replay = turns.replay }
 
 -- ---- the changes of a source
 
@@ -90,27 +96,46 @@ behind_is way ahead =
     rw (← (take-take way.from way.to way.source.history ahead)) (take-append-drop way.from (take way.to way.source.history)) in
     sym (ap (state way.source.plan.start way.source.plan.cap) parts) ∙ state_append way.source.plan.start way.source.plan.cap (take way.from way.source.history) (passed way)
 
--- ---- maps and filters
+-- ---- operators on a list
 
-module _ {T : Type 0} (test : T → Bool) where
-  pub filter_leads : (items : List T) (diffs : List (VecDiff T)) → AreLawful items diffs → Leads (filter test items) (through (filter_gives test) items diffs) (filter test (replayed items diffs))
-  filter_leads items [] lawful = record { lawful = tt; replay = refl }
-  filter_leads items (diff ∷ diffs) lawful =
-      let turn = filter_turns test items diff lawful.0 in
-      leads_append (filter test items) (filter test (applied items diff)) _ (filter_gives test items diff) _ (record { lawful = turn.lawful; replay = turn.replay }) (filter_leads (applied items diff) diffs lawful.1)
+-- an operator: what it gives for a difference turns its view of the list into its view of the list after that, and no view is
+-- longer than its list
+pub record KeepsUp {T U : Type 0} (gives : List T → VecDiff T → List (VecDiff U)) (view : List T → List U) : Type 0 where
+  pub turns : (xs : List T) (diff : VecDiff T) → IsLawful diff (length xs) → Turns (view xs) (gives xs diff) (view (applied xs diff))
+  pub is_short : (xs : List T) → length (view xs) ≤ length xs
+
+module _ {T U : Type 0} {gives : List T → VecDiff T → List (VecDiff U)} {view : List T → List U} (keeps_up : KeepsUp gives view) where
+  gives_through : (xs : List T) (diffs : List (VecDiff T)) → through gives xs diffs ≡ all_given applied gives xs diffs
+  gives_through xs [] = refl
+  gives_through xs (diff ∷ diffs) = ap (λ more. gives xs diff ++ more) (gives_through (applied xs diff) diffs)
+
+  -- it follows differences, one after another
+  pub through_follows : (xs : List T) (diffs : List (VecDiff T)) → AreLawful xs diffs →
+      Follows (λ (ys zs : List T). ys ≡ zs) (λ (ys zs : List T). view ys) xs xs diffs (replayed xs diffs) (through gives xs diffs)
+  through_follows xs diffs lawful =
+      rw (gives_through xs diffs)
+      (follows (λ (ys zs : List T). ys ≡ zs) applied (λ ys zs diff same takes. ap (λ list. applied list diff) same) (λ (ys zs : List T). view ys) gives
+      (λ ys zs diff same takes. keeps_up.turns ys diff (rw same takes)) (λ ys zs same. rw (← same) (keeps_up.is_short ys)) xs xs diffs refl lawful)
+
+  pub through_leads : (xs : List T) (diffs : List (VecDiff T)) (ys : List T) → Leads xs diffs ys → Leads (view xs) (through gives xs diffs) (view ys)
+  through_leads xs diffs ys below =
+      let follows_them = through_follows xs diffs below.lawful in
+      rw (← below.replay) (record { lawful = follows_them.lawful; replay = follows_them.replay })
+
+pub filter_keeps_up : {T : Type 0} (test : T → Bool) → KeepsUp (filter_gives test) (filter test)
+filter_keeps_up test = record { turns = filter_turns test; is_short = filter_is_short test }
+
+pub sorted_keeps_up : (key : ℤ → ℤ) → KeepsUp (sorted_gives key) (in_order (by_key key))
+sorted_keeps_up key = record { turns = sorted_turns key; is_short = sorted_is_short key }
 
 module _ {T U : Type 0} (f : T → U) where
-  map_leads : (items : List T) (diffs : List (VecDiff T)) → AreLawful items diffs → Leads (map f items) (flat_map (map_gives f) diffs) (map f (replayed items diffs))
-  map_leads items [] lawful = record { lawful = tt; replay = refl }
-  map_leads items (diff ∷ diffs) lawful =
-      let turn = map_turns f items diff lawful.0 in
-      leads_append (map f items) (map f (applied items diff)) _ (map_gives f diff) _ (record { lawful = turn.lawful; replay = turn.replay }) (map_leads (applied items diff) diffs lawful.1)
+  pub map_keeps_up : KeepsUp (λ (xs : List T). map_gives f) (map f)
+  map_keeps_up = record { turns = map_turns f; is_short = map_is_short f }
 
-module _ {L : Type 0} (way : L → Way) (ahead : (leaf : L) → (way leaf).from ≤ (way leaf).to) where
-  pub flow_leads : (e : VecTree L) → IsListBuilt e → Leads (list_of (old way) e) (list_flow way e) (list_of (new way) e)
-  flow_leads (vector leaf) is = rw (behind_is (way leaf) (ahead leaf)) (entering_leads (before (way leaf)) (way leaf).source.plan.cap (passed (way leaf)))
-  flow_leads (mapped f e) is =
-      let below = flow_leads e is in rw (← below.replay) (map_leads (image f) (list_of (old way) e) (list_flow way e) below.lawful)
-  flow_leads (filtered p e) is =
-      let below = flow_leads e is in rw (← below.replay) (filter_leads (passes p) (list_of (old way) e) (list_flow way e) below.lawful)
-  flow_leads _ is = absurd is
+  -- a map gives for each difference by itself
+  pub map_through : (xs : List T) (diffs : List (VecDiff T)) → flat_map (map_gives f) diffs ≡ through (λ (ys : List T). map_gives f) xs diffs
+  map_through xs [] = refl
+  map_through xs (diff ∷ diffs) = ap (λ more. map_gives f diff ++ more) (map_through (applied xs diff) diffs)
+
+  pub map_leads : (xs : List T) (diffs : List (VecDiff T)) (ys : List T) → Leads xs diffs ys → Leads (map f xs) (flat_map (map_gives f) diffs) (map f ys)
+  map_leads xs diffs ys below = rw (map_through xs diffs) (through_leads map_keeps_up xs diffs ys below)

@@ -10,23 +10,15 @@ use Rattle.sig_hist.specs.Ports.{PortState}
 use Rattle.sig_ops.proofs.Sizing.{are_lawful_for_length, length_replayed, sizes_stay_within}
 use Rattle.sig_ops.specs.Signals.{given}
 use Rattle.sig_ops.specs.Sizes.{AreLawfulFor, SizesStayWithin, all_resized}
-use Rattle.sig_view.proofs.Carrying.{carries, held_before, list_is_built, never_back}
+use Rattle.sig_view.proofs.Carrying.{carries, held_before, never_back, signal_is_built}
 use Rattle.sig_view.proofs.Leading.{signal_leads}
 use Rattle.sig_view.proofs.Shortening.{carries_short}
 use Rattle.sig_view.proofs.Turning.{Leads}
-use Rattle.sig_view.specs.Built.{IsSignalBuilt}
 use Rattle.sig_view.specs.Flow.{list_flow, value_flow}
 use Rattle.sig_view.specs.Longest.{vec_longest}
-use Rattle.sig_view.specs.Nodes.{ListOps, ListStands, SignalOps, SignalStands, count_of, image_of, list_tree, number, signal_tree, sum_of, without_repeats}
+use Rattle.sig_view.specs.Nodes.{ListOps, ListStands, SignalOps, SignalStands, count_of, list_tree, signal_tree, sum_of, without_repeats}
 use Rattle.sig_view.specs.SoundRows.{GoOn, contents_at, ways}
 use Rattle.sig_view.specs.Walking.{CanWalk, HasGone, Progress, cap_at, sources_in}
-
-pub signal_is_built : (ops : SignalOps) → IsSignalBuilt (signal_tree ops)
-signal_is_built (number leaf) = tt
-signal_is_built (image_of fun ops) = signal_is_built ops
-signal_is_built (without_repeats last ops) = signal_is_built ops
-signal_is_built (count_of len ops) = list_is_built ops
-signal_is_built (sum_of items ops) = list_is_built ops
 
 module _ (s t : PortState) (old new : Progress) (can : CanWalk s old) (gone : HasGone s t old new) (goes_on : GoOn old.positions new.positions) where
   -- the signal below a dedupe has stepped

@@ -1,6 +1,10 @@
 -- What a view gives as its leaves go on along the histories of their sources.
 use Rattle.std.specs.Prelude.{ℕ, ◌+◌, ℤ, pos, List, [], ◌∷◌, ◌++◌, length, take, drop, Option, None, Some, option_map, option_and_then}
+use Rattle.std.specs.Option.{option_map_or, option_or}
 use Rattle.std.specs.List.{flat_map}
+use Rattle.sig_bank.specs.Banks.{BySignals, signals_next}
+use Rattle.sig_bank.specs.Tables.{filter_by_signal, map_by_signal, pick_gives, switch_gives}
+use Rattle.sig_diff.specs.Choosing.{chosen, is_let_in, raised_by}
 use Rattle.sig_diff.specs.Differences.{applied}
 use Rattle.sig_diff.specs.Numbers.{clamped, total}
 use Rattle.sig_diff.specs.declared.contents.Content.{Content}
@@ -10,9 +14,9 @@ use Rattle.sig_diff.specs.declared.differences.VecDiff.TheVariants.{Replace}
 use Rattle.sig_diff.specs.declared.map_differences.MapDiff.{MapDiff}
 use Rattle.sig_diff.specs.declared.map_differences.MapDiff.TheVariants as changed
 use Rattle.sig_expr.specs.Functions.{image, passes}
-use Rattle.sig_expr.specs.Scratch.{list_of, value_of}
+use Rattle.sig_expr.specs.Scratch.{list_of, lists_of, signals_of, value_of}
 use Rattle.sig_expr.specs.Shows.{shows}
-use Rattle.sig_expr.specs.Trees.{MapTree, map_source, SigTree, cell, mapped_signal, deduped, length_of, total_of, VecTree, vector, mapped, filtered, ViewTree, signal_view, vector_view, map_view, entries_view, tagged_view}
+use Rattle.sig_expr.specs.Trees.{MapTree, map_source, SigTree, cell, mapped_signal, deduped, switched, length_of, total_of, VecTree, vector, mapped, filtered, filtered_by, mapped_by, sorted, picked, SigTrees, no_signals, more_signals, VecTrees, no_lists, more_lists, ViewTree, signal_view, vector_view, map_view, entries_view, tagged_view}
 use Rattle.sig_expr.specs.declared.shown.Shown.{Shown}
 use Rattle.sig_expr.specs.declared.shown.Shown.TheVariants as shown
 use Rattle.sig_hist.specs.Entering.{list_entering, map_entering, number_entering}
@@ -21,6 +25,7 @@ use Rattle.sig_hist.specs.Sources.{Source}
 use Rattle.sig_hist.specs.declared.edits.Entry.{Entry}
 use Rattle.sig_ops.specs.Signals.{given}
 use Rattle.sig_ops.specs.Tables.{filter_gives, map_gives}
+use Rattle.sig_sort.specs.Sorted.{sorted_gives}
 use Rattle.sig_view.specs.declared.rows.Body.{Body}
 use Rattle.sig_view.specs.declared.rows.Body.TheVariants as body
 
@@ -48,6 +53,22 @@ abbrev pub through : {T U : Type 0} → (List T → VecDiff T → List (VecDiff 
 through gives xs [] = []
 through gives xs (diff ∷ diffs) = gives xs diff ++ through gives (applied xs diff) diffs
 
+-- what an operator gives where a signal gives a value, if it gives one
+abbrev pub given_list : {A : Type 0} → (ℤ → List A) → Option ℤ → List A
+given_list gives value = option_map_or gives value []
+
+-- what an operator on a list by signals gives where each signal in turn gives a value, if it gives one, from this place on
+abbrev pub by_signals : (BySignals → ℕ → ℤ → List (VecDiff ℤ)) → BySignals → ℕ → List (Option ℤ) → List (VecDiff ℤ)
+by_signals gives op place [] = []
+by_signals gives op place (None ∷ values) = by_signals gives op (place + 1) values
+by_signals gives op place (Some value ∷ values) = gives op place value ++ by_signals gives (signals_next op place value) (place + 1) values
+
+-- and what such an operator is after that
+abbrev pub after_signals : BySignals → ℕ → List (Option ℤ) → BySignals
+after_signals op place [] = op
+after_signals op place (None ∷ values) = after_signals op (place + 1) values
+after_signals op place (Some value ∷ values) = after_signals (signals_next op place value) (place + 1) values
+
 module _ {L : Type 0} (way : L → Way) where
   -- the contents of the leaves before and after
   abbrev pub old : L → Content
@@ -60,20 +81,43 @@ module _ {L : Type 0} (way : L → Way) where
   map_flow (map_source leaf) = map_entering (old leaf) (way leaf).source.plan.cap (passed (way leaf))
   map_flow _ = []
 
-  abbrev pub list_flow : VecTree L → List (VecDiff ℤ)
-  list_flow (vector leaf) = list_entering (old leaf) (way leaf).source.plan.cap (passed (way leaf))
-  list_flow (mapped f e) = flat_map (map_gives (image f)) (list_flow e)
-  list_flow (filtered p e) = through (filter_gives (passes p)) (list_of old e) (list_flow e)
-  list_flow _ = []
+  abbrev mutual
+    pub list_flow : VecTree L → List (VecDiff ℤ)
+    list_flow (vector leaf) = list_entering (old leaf) (way leaf).source.plan.cap (passed (way leaf))
+    list_flow (mapped f e) = flat_map (map_gives (image f)) (list_flow e)
+    list_flow (filtered p e) = through (filter_gives (passes p)) (list_of old e) (list_flow e)
+    list_flow (sorted f e) = through (sorted_gives (image f)) (list_of old e) (list_flow e)
+    list_flow (filtered_by e bank) =
+        through (filter_gives (is_let_in (signals_of old bank))) (list_of old e) (list_flow e)
+        ++ by_signals filter_by_signal (record { items = list_of new e; signals = signals_of old bank }) 0 (value_flows bank)
+    list_flow (mapped_by e bank) =
+        flat_map (map_gives (raised_by (signals_of old bank))) (list_flow e)
+        ++ by_signals map_by_signal (record { items = list_of new e; signals = signals_of old bank }) 0 (value_flows bank)
+    list_flow (picked e bank) =
+        given_list (pick_gives (record { chooser = value_of old e; parts = lists_of old bank })) (value_flow e)
+        ++ chosen (list_flows bank) (value_of new e) []
+    list_flow _ = []
 
-  -- the value that a signal gives, where it gives one
-  abbrev pub value_flow : SigTree L → Option ℤ
-  value_flow (cell leaf) = number_entering (old leaf) (way leaf).source.plan.cap (passed (way leaf))
-  value_flow (mapped_signal f e) = option_map (image f) (value_flow e)
-  value_flow (deduped e) = option_and_then (given (value_of old e)) (value_flow e)
-  value_flow (length_of e) = given (pos (length (list_of old e))) (pos (length (list_of new e)))
-  value_flow (total_of e) = given (clamped (total (list_of old e))) (clamped (total (list_of new e)))
-  value_flow _ = None
+    -- the value that a signal gives, where it gives one
+    pub value_flow : SigTree L → Option ℤ
+    value_flow (cell leaf) = number_entering (old leaf) (way leaf).source.plan.cap (passed (way leaf))
+    value_flow (mapped_signal f e) = option_map (image f) (value_flow e)
+    value_flow (deduped e) = option_and_then (given (value_of old e)) (value_flow e)
+    value_flow (switched e bank) =
+        option_or (chosen (value_flows bank) (value_of new e) None)
+        (option_and_then (switch_gives (record { chooser = value_of old e; parts = signals_of old bank }) 0) (value_flow e))
+    value_flow (length_of e) = given (pos (length (list_of old e))) (pos (length (list_of new e)))
+    value_flow (total_of e) = given (clamped (total (list_of old e))) (clamped (total (list_of new e)))
+    value_flow _ = None
+
+    -- what each part of a bank gives
+    pub value_flows : SigTrees L → List (Option ℤ)
+    value_flows no_signals = []
+    value_flows (more_signals e bank) = value_flow e ∷ value_flows bank
+
+    pub list_flows : VecTrees L → List (List (VecDiff ℤ))
+    list_flows no_lists = []
+    list_flows (more_lists e bank) = list_flow e ∷ list_flows bank
 
   abbrev pub flow : ViewTree L → Body
   flow (signal_view e) = body.Signal (value_flow e)

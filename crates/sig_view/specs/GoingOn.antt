@@ -1,12 +1,12 @@
 -- A walk over all leaves after the first row, as a part of a poll.
-use Rattle.std.specs.Prelude.{◌≡◌, ℕ, ◌<◌, ◌+◌, length, slice_index, true, false, None, Some}
-use Rattle.sig_expr.specs.Leaves.{leaves}
+use Rattle.std.specs.Prelude.{◌≡◌, ℕ, ◌<◌, ◌+◌, slice_index, true, false, None, Some}
+use Rattle.sig_expr.specs.Awaited.{awaits}
 use Rattle.sig_hist.specs.Ports.{PortState}
 use Rattle.sig_view.specs.Flow.{flow}
 use Rattle.sig_view.specs.Nodes.{ViewOps, map, view_ops}
 use Rattle.sig_view.specs.Polling.{IsSameTask}
-use Rattle.sig_view.specs.SoundRows.{ways}
-use Rattle.sig_view.specs.Tasks.{IsReady, has_row, is_ended, is_failed, is_following, positions_of, sources_of, view_of}
+use Rattle.sig_view.specs.SoundRows.{is_awaited, ways}
+use Rattle.sig_view.specs.Tasks.{IsReady, contents_of, has_row, is_ended, is_failed, is_following, positions_of, sources_of, view_of}
 use Rattle.sig_view.specs.Walking.{HasLooked, HasWalked, set_out}
 use Rattle.sig_view.specs.declared.rows.Body.{Body}
 use Rattle.sig_view.specs.declared.task.Going.{Going}
@@ -24,13 +24,13 @@ ops_of stage = map 0
 abbrev pub failed_now : ViewTask → ViewTask
 failed_now task = record task { stage = Failed true }
 
--- all leaves were taken along, and the view gives this for that
+-- all awaited leaves were taken along, and the view gives this for that
 pub record HasStepped (s t : PortState) (old new : ViewTask) (body : Body) : Type 0 where
   pub looked : HasLooked s t
   pub ready : IsReady t new
   pub same : IsSameTask old new
   pub follows : is_following new ≡ true
-  pub walked : HasWalked s t (set_out old.walk) new.walk (leaves (view_of old))
+  pub walked : HasWalked s t (set_out old.walk) new.walk (awaits (contents_of t new) (view_of old))
   pub flow_is : body ≡ flow (ways (sources_of t new) (positions_of old) (positions_of new)) (view_of old)
 
 -- memory was wanting
@@ -57,8 +57,8 @@ HasGoneOn s t old new told (Answered NoMemory) = HasLost s t old new
 HasGoneOn s t old new told (Answered (Batch row token held)) = HasStepped s t old new row.body × IsAnswered new new row.body told (Answered (Batch row token held))
 HasGoneOn s t old new told going = (body : Body) × HasStepped s t old new body × IsAnswered new new body told going
 
--- an open leaf's source has shown more than the leaf has passed
+-- an awaited leaf's source has shown more than the leaf has passed
 pub record IsBehind (s : PortState) (task : ViewTask) : Type 0 where
   pub leaf : ℕ
-  pub within : leaf < length (positions_of task)
+  pub awaited : is_awaited (view_of task) (sources_of s task) (positions_of task) leaf ≡ true
   pub more : slice_index (positions_of task) leaf < s.count (s.source (task.walk.first + leaf))

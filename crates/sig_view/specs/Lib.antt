@@ -1,10 +1,12 @@
 pub mod Flow
 pub mod SoundRows
 pub mod Built
+pub mod Choices
 pub mod Longest
 pub mod Walking
 pub mod Nodes
 pub mod Starting
+pub mod Steps
 pub mod Fetching
 pub mod Tasks
 pub mod Polling

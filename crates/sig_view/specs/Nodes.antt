@@ -1,76 +1,158 @@
 -- The operators of a view as trees beside its expression, and when they stand for contents of the leaves.
-use Rattle.std.specs.Prelude.{◌≡◌, ℕ, ℤ, List, length}
+use Rattle.std.specs.Prelude.{◌≡◌, ℕ, ℤ, List, length, Bool, true, false}
+use Rattle.sig_bank.specs.Banks.{BySignals, Choice}
+use Rattle.sig_diff.specs.Sorting.{by_key, in_order}
 use Rattle.sig_diff.specs.declared.contents.Content.{Content}
-use Rattle.sig_expr.specs.Scratch.{list_of, value_of}
-use Rattle.sig_expr.specs.Trees.{SigTree, cell, mapped_signal, deduped, length_of, total_of, VecTree, vector, mapped, filtered, map_source, ViewTree, signal_view, vector_view, map_view}
+use Rattle.sig_expr.specs.Functions.{image}
+use Rattle.sig_expr.specs.Scratch.{list_of, lists_of, signals_of, value_of}
+use Rattle.sig_expr.specs.Trees.{SigTree, cell, mapped_signal, deduped, switched, length_of, total_of, VecTree, vector, mapped, filtered, filtered_by, mapped_by, sorted, picked, SigTrees, no_signals, more_signals, VecTrees, no_lists, more_lists, map_source, ViewTree, signal_view, vector_view, map_view}
 use Rattle.sig_expr.specs.declared.functions.Fun.{Fun}
 use Rattle.sig_expr.specs.declared.functions.Pred.{Pred}
 use Rattle.sig_ops.specs.Filters.{Filter}
+use Rattle.sig_sort.specs.Sorted.{SortedList}
 use Rattle.sig_view.specs.declared.nodes.ListNode.{ListNode, ListNode-F, fold-ListNode}
 use Rattle.sig_view.specs.declared.nodes.SignalNode.{SignalNode, SignalNode-F, fold-SignalNode}
+use Rattle.sig_view.specs.declared.nodes.SignalBank.{SignalBank, SignalBank-F, fold-SignalBank}
+use Rattle.sig_view.specs.declared.nodes.ListBank.{ListBank, ListBank-F, fold-ListBank}
 use Rattle.sig_view.specs.declared.nodes.ViewNode.{ViewNode}
 use Rattle.sig_view.specs.declared.nodes.ViewNode.TheVariants as node
 
--- ---- lists
+-- ---- operators
 
--- a list's operators, from its leaf on
-pub data ListOps : Type 0 where
-  source : ℕ → ListOps
-  images : Fun → ListOps → ListOps
-  kept : Filter Pred ℤ → ListOps → ListOps
+mutual
+  -- a list's operators, from its leaves on
+  pub data ListOps : Type 0 where
+    source : ℕ → ListOps
+    images : Fun → ListOps → ListOps
+    kept : Filter Pred ℤ → ListOps → ListOps
+    ordered : SortedList Fun → ListOps → ListOps
+    let_in : BySignals → ListOps → SignalsOps → ListOps
+    raised : BySignals → ListOps → SignalsOps → ListOps
+    pick_of : Choice (List ℤ) → SignalOps → ListsOps → ListOps
 
-abbrev pub list_step : ListNode-F ListOps → ListOps
+  -- a signal's
+  pub data SignalOps : Type 0 where
+    number : ℕ → SignalOps
+    image_of : Fun → SignalOps → SignalOps
+    without_repeats : ℤ → SignalOps → SignalOps
+    switch_of : Choice ℤ → SignalOps → SignalsOps → SignalOps
+    count_of : ℕ → ListOps → SignalOps
+    sum_of : List ℤ → ListOps → SignalOps
+
+  -- those of a bank's parts
+  pub data SignalsOps : Type 0 where
+    no_signal : SignalsOps
+    one_signal : SignalOps → SignalsOps → SignalsOps
+
+  pub data ListsOps : Type 0 where
+    no_list : ListsOps
+    one_list : ListOps → ListsOps → ListsOps
+
+abbrev pub has_no_signal : SignalsOps → Bool
+has_no_signal no_signal = true
+has_no_signal (one_signal ops bank) = false
+
+abbrev pub has_no_list : ListsOps → Bool
+has_no_list no_list = true
+has_no_list (one_list ops bank) = false
+
+abbrev pub list_step : ListNode-F ListsOps ListOps SignalsOps SignalOps → ListOps
 list_step (ListNode-F.Source leaf) = source leaf
-list_step (ListNode-F.Map fun of) = images fun of.value
+list_step (ListNode-F.ListNode::Map fun of) = images fun of.value
 list_step (ListNode-F.Filter filter of) = kept filter of.value
+list_step (ListNode-F.Sorted list of) = ordered list of.value
+list_step (ListNode-F.FilterBy by of bank) = let_in by of.value bank.value
+list_step (ListNode-F.MapBy by of bank) = raised by of.value bank.value
+list_step (ListNode-F.Pick choice of bank) = pick_of choice of.value bank.value
+
+abbrev pub signal_step : SignalNode-F ListsOps ListOps SignalsOps SignalOps → SignalOps
+signal_step (SignalNode-F.Cell leaf) = number leaf
+signal_step (SignalNode-F.SignalNode::Map fun of) = image_of fun of.value
+signal_step (SignalNode-F.Dedupe last of) = without_repeats last of.value
+signal_step (SignalNode-F.Switch choice of bank) = switch_of choice of.value bank.value
+signal_step (SignalNode-F.Len len of) = count_of len of.value
+signal_step (SignalNode-F.Sum items of) = sum_of items of.value
+
+abbrev pub signals_step : SignalBank-F ListsOps ListOps SignalsOps SignalOps → SignalsOps
+signals_step SignalBank-F.SignalBank::Empty = no_signal
+signals_step (SignalBank-F.Signal of bank) = one_signal of.value bank.value
+
+abbrev pub lists_step : ListBank-F ListsOps ListOps SignalsOps SignalOps → ListsOps
+lists_step ListBank-F.ListBank::Empty = no_list
+lists_step (ListBank-F.List of bank) = one_list of.value bank.value
 
 abbrev pub list_ops : ListNode → ListOps
-list_ops = fold-ListNode ListOps list_step
-
--- the expression that the operators work on, its leaves by their numbers
-abbrev pub list_tree : ListOps → VecTree ℕ
-list_tree (source leaf) = vector leaf
-list_tree (images fun ops) = mapped fun (list_tree ops)
-list_tree (kept filter ops) = filtered filter.tester (list_tree ops)
-
--- each operator stands for what its list is by these contents
-abbrev pub ListStands : (ℕ → Content) → ListOps → Type 0
-ListStands s (source leaf) = Unit {0}
-ListStands s (images fun ops) = ListStands s ops
-ListStands s (kept filter ops) = (filter.items ≡ list_of s (list_tree ops)) × ListStands s ops
-
--- ---- signals
-
-pub data SignalOps : Type 0 where
-  number : ℕ → SignalOps
-  image_of : Fun → SignalOps → SignalOps
-  without_repeats : ℤ → SignalOps → SignalOps
-  count_of : ℕ → ListOps → SignalOps
-  sum_of : List ℤ → ListOps → SignalOps
-
-abbrev pub signal_step : SignalNode-F SignalOps → SignalOps
-signal_step (SignalNode-F.Cell leaf) = number leaf
-signal_step (SignalNode-F.Map fun of) = image_of fun of.value
-signal_step (SignalNode-F.Dedupe last of) = without_repeats last of.value
-signal_step (SignalNode-F.Len len of) = count_of len (list_ops of)
-signal_step (SignalNode-F.Sum items of) = sum_of items (list_ops of)
+list_ops = fold-ListNode ListsOps ListOps SignalsOps SignalOps lists_step list_step signals_step signal_step
 
 abbrev pub signal_ops : SignalNode → SignalOps
-signal_ops = fold-SignalNode SignalOps signal_step
+signal_ops = fold-SignalNode ListsOps ListOps SignalsOps SignalOps lists_step list_step signals_step signal_step
 
-abbrev pub signal_tree : SignalOps → SigTree ℕ
-signal_tree (number leaf) = cell leaf
-signal_tree (image_of fun ops) = mapped_signal fun (signal_tree ops)
-signal_tree (without_repeats last ops) = deduped (signal_tree ops)
-signal_tree (count_of len ops) = length_of (list_tree ops)
-signal_tree (sum_of items ops) = total_of (list_tree ops)
+abbrev pub signals_ops : SignalBank → SignalsOps
+signals_ops = fold-SignalBank ListsOps ListOps SignalsOps SignalOps lists_step list_step signals_step signal_step
 
-abbrev pub SignalStands : (ℕ → Content) → SignalOps → Type 0
-SignalStands s (number leaf) = Unit {0}
-SignalStands s (image_of fun ops) = SignalStands s ops
-SignalStands s (without_repeats last ops) = (last ≡ value_of s (signal_tree ops)) × SignalStands s ops
-SignalStands s (count_of len ops) = (len ≡ length (list_of s (list_tree ops))) × ListStands s ops
-SignalStands s (sum_of items ops) = (items ≡ list_of s (list_tree ops)) × ListStands s ops
+abbrev pub lists_ops : ListBank → ListsOps
+lists_ops = fold-ListBank ListsOps ListOps SignalsOps SignalOps lists_step list_step signals_step signal_step
+
+-- ---- the expressions that the operators work on, their leaves by their numbers
+
+abbrev mutual
+  pub list_tree : ListOps → VecTree ℕ
+  list_tree (source leaf) = vector leaf
+  list_tree (images fun ops) = mapped fun (list_tree ops)
+  list_tree (kept filter ops) = filtered filter.tester (list_tree ops)
+  list_tree (ordered list ops) = sorted list.mapper (list_tree ops)
+  list_tree (let_in by ops bank) = filtered_by (list_tree ops) (signal_trees bank)
+  list_tree (raised by ops bank) = mapped_by (list_tree ops) (signal_trees bank)
+  list_tree (pick_of choice ops bank) = picked (signal_tree ops) (list_trees bank)
+
+  pub signal_tree : SignalOps → SigTree ℕ
+  signal_tree (number leaf) = cell leaf
+  signal_tree (image_of fun ops) = mapped_signal fun (signal_tree ops)
+  signal_tree (without_repeats last ops) = deduped (signal_tree ops)
+  signal_tree (switch_of choice ops bank) = switched (signal_tree ops) (signal_trees bank)
+  signal_tree (count_of len ops) = length_of (list_tree ops)
+  signal_tree (sum_of items ops) = total_of (list_tree ops)
+
+  pub signal_trees : SignalsOps → SigTrees ℕ
+  signal_trees no_signal = no_signals
+  signal_trees (one_signal ops bank) = more_signals (signal_tree ops) (signal_trees bank)
+
+  pub list_trees : ListsOps → VecTrees ℕ
+  list_trees no_list = no_lists
+  list_trees (one_list ops bank) = more_lists (list_tree ops) (list_trees bank)
+
+-- ---- each operator stands for what its parts are by these contents
+
+abbrev mutual
+  pub ListStands : (ℕ → Content) → ListOps → Type 0
+  ListStands s (source leaf) = Unit {0}
+  ListStands s (images fun ops) = ListStands s ops
+  ListStands s (kept filter ops) = (filter.items ≡ list_of s (list_tree ops)) × ListStands s ops
+  ListStands s (ordered list ops) =
+      (list.items ≡ list_of s (list_tree ops)) × (list.sorted ≡ in_order (by_key (image list.mapper)) list.items) × ListStands s ops
+  ListStands s (let_in by ops bank) =
+      (by.items ≡ list_of s (list_tree ops)) × (by.signals ≡ signals_of s (signal_trees bank)) × ListStands s ops × SignalsStand s bank
+  ListStands s (raised by ops bank) =
+      (by.items ≡ list_of s (list_tree ops)) × (by.signals ≡ signals_of s (signal_trees bank)) × ListStands s ops × SignalsStand s bank
+  ListStands s (pick_of choice ops bank) =
+      (choice.chooser ≡ value_of s (signal_tree ops)) × (choice.parts ≡ lists_of s (list_trees bank)) × SignalStands s ops × ListsStand s bank
+
+  pub SignalStands : (ℕ → Content) → SignalOps → Type 0
+  SignalStands s (number leaf) = Unit {0}
+  SignalStands s (image_of fun ops) = SignalStands s ops
+  SignalStands s (without_repeats last ops) = (last ≡ value_of s (signal_tree ops)) × SignalStands s ops
+  SignalStands s (switch_of choice ops bank) =
+      (choice.chooser ≡ value_of s (signal_tree ops)) × (choice.parts ≡ signals_of s (signal_trees bank)) × SignalStands s ops × SignalsStand s bank
+  SignalStands s (count_of len ops) = (len ≡ length (list_of s (list_tree ops))) × ListStands s ops
+  SignalStands s (sum_of items ops) = (items ≡ list_of s (list_tree ops)) × ListStands s ops
+
+  pub SignalsStand : (ℕ → Content) → SignalsOps → Type 0
+  SignalsStand s no_signal = Unit {0}
+  SignalsStand s (one_signal ops bank) = SignalStands s ops × SignalsStand s bank
+
+  pub ListsStand : (ℕ → Content) → ListsOps → Type 0
+  ListsStand s no_list = Unit {0}
+  ListsStand s (one_list ops bank) = ListStands s ops × ListsStand s bank
 
 -- ---- views
 

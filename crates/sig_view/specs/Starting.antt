@@ -1,11 +1,11 @@
 -- The operators of a view as they are started on the contents of its leaves.
-use Rattle.std.specs.Prelude.{◌≡◌, ℕ, ℤ, List, length}
+use Rattle.std.specs.Prelude.{◌≡◌, ℕ, ℤ, List, [], ◌∷◌, length}
 use Rattle.sig_diff.specs.Contents.{list_in}
 use Rattle.sig_diff.specs.declared.contents.Content.{Content}
-use Rattle.sig_expr.specs.Scratch.{list_of, value_of}
-use Rattle.sig_expr.specs.Trees.{SigTree, VecTree, ViewTree}
+use Rattle.sig_expr.specs.Scratch.{list_of, lists_of, signals_of, value_of}
+use Rattle.sig_expr.specs.Trees.{SigTree, SigTrees, VecTree, VecTrees, ViewTree}
 use Rattle.sig_view.specs.Flow.{first_body}
-use Rattle.sig_view.specs.Nodes.{ListOps, SignalOps, ViewOps, ListStands, SignalStands, ViewStands, list_tree, signal_tree, view_tree_of}
+use Rattle.sig_view.specs.Nodes.{ListOps, ListsOps, SignalOps, SignalsOps, ViewOps, ListStands, ListsStand, SignalStands, SignalsStand, ViewStands, list_tree, list_trees, no_list, no_signal, one_list, one_signal, signal_tree, signal_trees, view_tree_of}
 use Rattle.sig_view.specs.declared.rows.Body.{Body}
 
 -- how long the list of each leaf is
@@ -24,8 +24,33 @@ pub record IsSignalStarted (s : ℕ → Content) (tree : SigTree ℕ) (ops : Sig
   pub stands : SignalStands s ops
   pub value_is : value ≡ value_of s tree
 
+-- the same of a bank's signals and their values
+pub record AreSignalsStarted (s : ℕ → Content) (trees : SigTrees ℕ) (ops : SignalsOps) (values : List ℤ) : Type 0 where
+  pub trees_are : signal_trees ops ≡ trees
+  pub stand : SignalsStand s ops
+  pub values_are : values ≡ signals_of s trees
+
+-- the same of a bank's lists
+pub record AreListsStarted (s : ℕ → Content) (trees : VecTrees ℕ) (ops : ListsOps) (lists : List (List ℤ)) : Type 0 where
+  pub trees_are : list_trees ops ≡ trees
+  pub stand : ListsStand s ops
+  pub lists_are : lists ≡ lists_of s trees
+
 -- the same of a view and the body of its first row
 pub record IsViewStarted (s : ℕ → Content) (tree : ViewTree ℕ) (ops : ViewOps) (body : Body) : Type 0 where
   pub tree_is : view_tree_of ops ≡ tree
   pub stands : ViewStands s ops
   pub body_is : body ≡ first_body tree s
+
+-- parts before those of a bank, by what a bank with one more part in front is
+abbrev pub parts_before : {O B : Type 0} → (O → B → B) → List O → B → B
+parts_before in_front [] bank = bank
+parts_before in_front (ops ∷ more) bank = in_front ops (parts_before in_front more bank)
+
+-- the bank of these signals
+abbrev pub signals_bank : List SignalOps → SignalsOps
+signals_bank all = parts_before one_signal all no_signal
+
+-- the bank of these lists
+abbrev pub lists_bank : List ListOps → ListsOps
+lists_bank all = parts_before one_list all no_list

@@ -129,14 +129,21 @@ pub record IsCaughtUp (t : PortState) (walk : Progress) (leaf : ℕ) : Type 0 wh
 abbrev pub IsFresh : PortState → PortState → Progress → ℕ → Type 0
 IsFresh s t walk leaf = was_held s t (walk.first + leaf) ≡ false → length (s.seen (s.source (walk.first + leaf))) ≤ slice_index walk.positions leaf
 
+-- nothing was seen, and where all was seen of a source a look has shown no more
+pub record HasSettled (s t : PortState) : Type 0 where
+  pub seen : t.seen ≡ s.seen
+  pub counts : (source : ℕ) → s.count source ≡ length (s.seen source) → t.count source ≡ length (t.seen source)
+
 -- a part of a walk, in which these leaves were looked at
 pub record HasWalked (s t : PortState) (old new : Progress) (leaves : List ℕ) : Type 0 where
   pub goes_on : GoOn old.positions new.positions
   pub others : (leaf : ℕ) → is_among leaf leaves ≡ false → slice_index new.positions leaf ≡ slice_index old.positions leaf
+  pub unmarked : (leaf : ℕ) → is_among leaf leaves ≡ false → slice_get new.marks leaf ≡ slice_get old.marks leaf
   pub stays : new.moved ≡ false → (old.moved ≡ false) × (new.positions ≡ old.positions)
   pub moves : new.moved ≡ true → old.moved ≡ false → new.positions ≢ old.positions
   pub held : new.held ≡ first_held old.held (met_since s t)
   pub fresh : (leaf : ℕ) → is_among leaf leaves ≡ true → IsFresh s t new leaf
+  pub settled : new.moved ≡ false → new.held ≡ None → HasSettled s t
   pub caught_up : new.moved ≡ false → new.held ≡ None → (leaf : ℕ) → is_among leaf leaves ≡ true → IsCaughtUp t new leaf
 
 -- a walk has these leaves

@@ -1,12 +1,17 @@
 //! Views that are polled over a port: what each poll gives, when it waits, and when the view ends.
 #![tactic(auto)]
 
+mod banks;
+mod choosing;
 mod fetching;
 mod lists;
 mod nodes;
 mod rows;
 mod signals;
 mod starting;
+mod starting_banks;
+mod starting_lists;
+mod starting_signals;
 mod task;
 mod views;
 mod waiting;

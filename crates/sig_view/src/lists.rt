@@ -1,39 +1,38 @@
-ghost use Rattle.std.specs.Prelude.{◌≡◌, ◌≤◌, IfOk, OnOk};
-ghost use Rattle.sig_expr.specs.Leaves.{vec_leaves};
-ghost use Rattle.sig_diff.specs.Replaying.{AreLawful, replayed};
+ghost use Rattle.std.specs.Prelude.{◌≡◌, ◌≤◌, length, IfOk, OnOk};
+ghost use Rattle.std.specs.List.{flat_map};
+ghost use Rattle.sig_diff.specs.Replaying.{AreLawful, StaysShort, replayed};
+ghost use Rattle.sig_diff.specs.Sorting.{by_key, in_order};
 ghost use Rattle.sig_expr.specs.Functions.{image, passes};
 ghost use Rattle.sig_ops.specs.Tables.{filter_gives, map_gives};
-ghost use Rattle.std.specs.List.{flat_map};
-ghost use Rattle.sig_view.specs.Flow.{list_flow, through};
-ghost use Rattle.sig_view.specs.Nodes.{list_ops, list_tree, ListStands};
-ghost use Rattle.sig_view.specs.SoundRows.{contents_at, ways};
-ghost use Rattle.sig_view.specs.Walking.{CanWalk, HasGone, HasLeaves, HasWalked, list_entered, sources_in};
+ghost use Rattle.sig_sort.specs.Sorted.{sorted_gives, sorted_of};
+ghost use Rattle.sig_view.specs.Flow.{through};
+ghost use Rattle.sig_view.specs.Nodes.{list_ops};
+ghost use Rattle.sig_view.specs.Steps.{ListGone, ListMayGo};
+ghost use Rattle.sig_view.specs.Walking.{HasGone, list_entered};
 
+use crate::choosing::{chosen_anew, filtered_by, mapped_by, picked};
 use crate::nodes::ListNode;
 use crate::walk::Walk;
 use sig_diff::{Diffs, NoMemory};
 use sig_expr::{Fun, Pred};
 use sig_hist::{Entering, Port};
 use sig_ops::{FilterOp, MapOp, follow};
+use sig_sort::SortedOp;
 use std::alloc::Global;
 
 impl ListNode {
     /// Takes its leaves along, from left to right, and gives what the list gives for that.
+    #[cycle(walk)]
     pub fn step<P: Port>(
         &mut self,
         alloc: Global,
         port: &mut P,
         walk: &mut Walk,
     ) -> Result<Diffs<i64>, NoMemory>
-        requires can { CanWalk (P.state port.old) walk.old }
-        requires leaves { HasLeaves walk.old (vec_leaves (list_tree (list_ops self.old))) }
-        requires stands { ListStands (contents_at (sources_in (P.state port.old) walk.old) walk.old.positions) (list_ops self.old) }
+        requires may_go { ListMayGo (P.state port.old) walk.old (list_ops self.old) }
         ensures same { P.is_same port.old port.new }
         ensures gone { HasGone (P.state port.old) (P.state port.new) walk.old walk.new }
-        ensures walked { OnOk result (HasWalked (P.state port.old) (P.state port.new) walk.old walk.new (vec_leaves (list_tree (list_ops self.old)))) }
-        ensures flow { IfOk result (λ given. given ≡ list_flow (ways (sources_in (P.state port.new) walk.new) walk.old.positions walk.new.positions) (list_tree (list_ops self.old))) }
-        ensures stands { OnOk result (ListStands (contents_at (sources_in (P.state port.new) walk.new) walk.new.positions) (list_ops self.new)) }
-        ensures tree { OnOk result (list_tree (list_ops self.new) ≡ list_tree (list_ops self.old)) }
+        ensures taken { IfOk result (ListGone (P.state port.old) (P.state port.new) walk.old walk.new (list_ops self.old) (list_ops self.new)) }
     {
         match self {
             ListNode::Source(leaf) => Ok(list_entered(alloc, walk.enter(port, *leaf)?)),
@@ -44,6 +43,32 @@ impl ListNode {
             ListNode::Filter(op, of) => {
                 let diffs = of.step(alloc, port, walk)?;
                 filtered(alloc, op, &diffs)
+            }
+            ListNode::Sorted(op, of) => {
+                let diffs = of.step(alloc, port, walk)?;
+                sorted(alloc, op, &diffs)
+            }
+            ListNode::FilterBy(op, of, bank) => {
+                let diffs = of.step(alloc, port, walk)?;
+                let mut values = Vec::new(alloc);
+                bank.step(alloc, port, walk, &mut values)?;
+                filtered_by(alloc, op, &diffs, values.as_slice())
+            }
+            ListNode::MapBy(op, of, bank) => {
+                let diffs = of.step(alloc, port, walk)?;
+                let mut values = Vec::new(alloc);
+                bank.step(alloc, port, walk, &mut values)?;
+                mapped_by(alloc, op, &diffs, values.as_slice())
+            }
+            ListNode::Pick(op, of, bank) => {
+                let chooser = of.step(alloc, port, walk)?;
+                let given = chosen_anew(alloc, op, chooser)?;
+                if bank.is_empty() {
+                    return Ok(given);
+                }
+                let place = op.chosen();
+                let diffs = bank.step_at(place, alloc, port, walk)?;
+                picked(op, place, &diffs, given)
             }
         }
     }
@@ -77,6 +102,20 @@ fn filtered(
     let mut kept = Diffs::new(alloc);
     follow(op, diffs, &mut kept)?;
     Ok(kept)
+}
+
+/// What a sorted list gives for differences that its list takes.
+fn sorted(alloc: Global, op: &mut SortedOp<Fun>, diffs: &Diffs<i64>) -> Result<Diffs<i64>, NoMemory>
+    requires lawful { AreLawful op.old.items diffs.now }
+    requires short_items { length op.old.items ≤ 65536 }
+    requires short { StaysShort 65536 op.old.items diffs.now }
+    requires in_order { op.old.sorted ≡ in_order (by_key (image op.old.mapper)) op.old.items }
+    ensures given { IfOk result (λ given. given ≡ through (sorted_gives (image op.old.mapper)) op.old.items diffs.now) }
+    ensures state { OnOk result (op.new ≡ sorted_of (image op.old.mapper) op.old.mapper (replayed op.old.items diffs.now)) }
+{
+    let mut given = Diffs::new(alloc);
+    follow(op, diffs, &mut given)?;
+    Ok(given)
 }
 
 /// The differences of a vector among what enters.

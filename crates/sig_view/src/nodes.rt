@@ -1,24 +1,49 @@
+use sig_bank::{FilterBy, MapBy, Pick, Switch};
 use sig_expr::{Fun, Pred};
 use sig_ops::{Dedupe, FilterOp, LenOp, MapOp, SumOp};
+use sig_sort::SortedOp;
 
-/// A list's operators, each with what it has to keep of the list below it.
+/// A list's operators, each with what it has to keep of the parts below it.
+#[cycle(tree)]
 #[derive(Debug, Drop)]
 pub enum ListNode {
     /// A vector, by its leaf's number.
     Source(usize),
     Map(MapOp<i64, i64, Fun>, Box<ListNode>),
     Filter(FilterOp<i64, Pred>, Box<ListNode>),
+    Sorted(SortedOp<Fun>, Box<ListNode>),
+    FilterBy(FilterBy, Box<ListNode>, Box<SignalBank>),
+    MapBy(MapBy, Box<ListNode>, Box<SignalBank>),
+    Pick(Pick, Box<SignalNode>, Box<ListBank>),
 }
 
 /// A signal's operators.
+#[cycle(tree)]
 #[derive(Debug, Drop)]
 pub enum SignalNode {
     /// A cell, by its leaf's number.
     Cell(usize),
     Map(Fun, Box<SignalNode>),
     Dedupe(Dedupe, Box<SignalNode>),
-    Len(LenOp, ListNode),
-    Sum(SumOp, ListNode),
+    Switch(Switch, Box<SignalNode>, Box<SignalBank>),
+    Len(LenOp, Box<ListNode>),
+    Sum(SumOp, Box<ListNode>),
+}
+
+/// The signals of a bank, from left to right.
+#[cycle(tree)]
+#[derive(Debug, Drop)]
+pub enum SignalBank {
+    Empty,
+    Signal(Box<SignalNode>, Box<SignalBank>),
+}
+
+/// The lists of a bank, from left to right.
+#[cycle(tree)]
+#[derive(Debug, Drop)]
+pub enum ListBank {
+    Empty,
+    List(Box<ListNode>, Box<ListBank>),
 }
 
 /// A view's operators.

@@ -1,13 +1,11 @@
-ghost use Rattle.std.specs.Prelude.{◌≡◌, ◌≤◌, option_and_then, option_map, unwrap_or, IfOk, OnOk};
+ghost use Rattle.std.specs.Prelude.{◌≡◌, option_and_then, option_map, unwrap_or, IfOk, OnOk};
 ghost use Rattle.sig_expr.specs.Functions.{image};
-ghost use Rattle.sig_expr.specs.Leaves.{sig_leaves};
 ghost use Rattle.sig_ops.specs.Signals.{given};
-ghost use Rattle.sig_view.specs.Flow.{value_flow};
-ghost use Rattle.sig_view.specs.Longest.{sig_longest};
-ghost use Rattle.sig_view.specs.Nodes.{signal_ops, signal_tree, SignalStands};
-ghost use Rattle.sig_view.specs.SoundRows.{contents_at, ways};
-ghost use Rattle.sig_view.specs.Walking.{CanWalk, HasGone, HasLeaves, HasWalked, cap_at, number_entered, sources_in};
+ghost use Rattle.sig_view.specs.Nodes.{signal_ops};
+ghost use Rattle.sig_view.specs.Steps.{SignalGone, SignalMayGo};
+ghost use Rattle.sig_view.specs.Walking.{HasGone, number_entered};
 
+use crate::choosing::switched;
 use crate::nodes::SignalNode;
 use crate::walk::Walk;
 use sig_diff::{Mapper, NoMemory};
@@ -18,22 +16,17 @@ use std::alloc::Global;
 
 impl SignalNode {
     /// Takes its leaves along, from left to right, and gives the signal's value, where it gives one for that.
+    #[cycle(walk)]
     pub fn step<P: Port>(
         &mut self,
         alloc: Global,
         port: &mut P,
         walk: &mut Walk,
     ) -> Result<Option<i64>, NoMemory>
-        requires can { CanWalk (P.state port.old) walk.old }
-        requires leaves { HasLeaves walk.old (sig_leaves (signal_tree (signal_ops self.old))) }
-        requires short { sig_longest (cap_at (sources_in (P.state port.old) walk.old)) (signal_tree (signal_ops self.old)) ≤ 65536 }
-        requires stands { SignalStands (contents_at (sources_in (P.state port.old) walk.old) walk.old.positions) (signal_ops self.old) }
+        requires may_go { SignalMayGo (P.state port.old) walk.old (signal_ops self.old) }
         ensures same { P.is_same port.old port.new }
         ensures gone { HasGone (P.state port.old) (P.state port.new) walk.old walk.new }
-        ensures walked { OnOk result (HasWalked (P.state port.old) (P.state port.new) walk.old walk.new (sig_leaves (signal_tree (signal_ops self.old)))) }
-        ensures flow { IfOk result (λ given. given ≡ value_flow (ways (sources_in (P.state port.new) walk.new) walk.old.positions walk.new.positions) (signal_tree (signal_ops self.old))) }
-        ensures stands { OnOk result (SignalStands (contents_at (sources_in (P.state port.new) walk.new) walk.new.positions) (signal_ops self.new)) }
-        ensures tree { OnOk result (signal_tree (signal_ops self.new) ≡ signal_tree (signal_ops self.old)) }
+        ensures taken { IfOk result (SignalGone (P.state port.old) (P.state port.new) walk.old walk.new (signal_ops self.old) (signal_ops self.new)) }
     {
         match self {
             SignalNode::Cell(leaf) => Ok(number_entered(walk.enter(port, *leaf)?)),
@@ -44,6 +37,16 @@ impl SignalNode {
             SignalNode::Dedupe(signal, of) => {
                 let value = of.step(alloc, port, walk)?;
                 Ok(deduped(signal, value))
+            }
+            SignalNode::Switch(op, of, bank) => {
+                let chooser = of.step(alloc, port, walk)?;
+                let anew = switched(op, 0, chooser);
+                if bank.is_empty() {
+                    return Ok(anew);
+                }
+                let place = op.chosen();
+                let value = bank.step_at(place, alloc, port, walk)?;
+                Ok(switched(op, place + 1, value).or(anew))
             }
             SignalNode::Len(op, of) => {
                 let diffs = of.step(alloc, port, walk)?;

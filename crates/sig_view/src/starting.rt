@@ -1,20 +1,25 @@
-ghost use Rattle.std.specs.Prelude.{◌≡◌, ◌∷◌, [], ◌≤◌, pos, Some, length, map, filter, IfOk};
+ghost use Rattle.std.specs.Prelude.{◌≡◌, ◌∷◌, [], ◌≤◌, ◌+◌, Some, length, map, IfOk};
+ghost use Rattle.std.specs.List.{All};
 ghost use Rattle.sig_diff.specs.Contents.{number_in, list_in, entries_in};
-ghost use Rattle.sig_diff.specs.Numbers.{clamped, total};
-ghost use Rattle.sig_expr.specs.Functions.{image, passes};
-ghost use Rattle.sig_expr.specs.Leaves.{number_sig, number_vec, numbered};
-ghost use Rattle.sig_expr.specs.Shapes.{sig_tree, vec_tree, view_tree};
-ghost use Rattle.sig_view.specs.Built.{IsBuilt, IsListBuilt, IsSignalBuilt};
+ghost use Rattle.sig_expr.specs.Leaves.{leaves, number_sig, number_sigs, number_vec, number_vecs, numbered, sig_leaves, sigs_leaves, vec_leaves, vecs_leaves};
+ghost use Rattle.sig_expr.specs.Shapes.{sig_tree, sig_trees, vec_tree, vec_trees, view_tree};
+ghost use Rattle.sig_view.specs.Built.{AreListsBuilt, AreSignalsBuilt, IsBuilt, IsListBuilt, IsSignalBuilt};
 ghost use Rattle.sig_view.specs.Fetching.{content_in};
-ghost use Rattle.sig_view.specs.Longest.{longest, sig_longest, vec_longest};
-ghost use Rattle.sig_view.specs.Nodes.{count_of, image_of, images, kept, list_ops, signal_ops, sum_of, view_ops, without_repeats};
-ghost use Rattle.sig_view.specs.Starting.{IsListStarted, IsSignalStarted, IsViewStarted, list_length};
+ghost use Rattle.sig_view.specs.Longest.{longest, sig_longest, sigs_longest, vec_longest, vecs_longest};
+ghost use Rattle.sig_view.specs.Nodes.{list_ops, lists_ops, signal_ops, signals_ops, view_ops};
+ghost use Rattle.sig_view.specs.Starting.{AreListsStarted, AreSignalsStarted, IsListStarted, IsSignalStarted, IsViewStarted, list_length};
 
-use crate::nodes::{ListNode, SignalNode, ViewNode};
+use crate::nodes::{ListBank, ListNode, SignalBank, SignalNode, ViewNode};
 use crate::rows::Body;
-use sig_diff::{Content, Diffs, Entries, Items, MapDiff, MapDiffs, Mapper, NoMemory, VecDiff};
-use sig_expr::{Fun, MapExpr, Pred, SigExpr, VecExpr, View};
-use sig_ops::{Dedupe, FilterOp, LenOp, MapOp, SumOp, VecOp};
+use crate::starting_banks::{list_bank, signal_bank};
+use crate::starting_lists::{
+    list_filtered, list_filtered_by, list_mapped, list_mapped_by, list_picked, list_sorted,
+};
+use crate::starting_signals::{
+    signal_deduped, signal_len, signal_mapped, signal_sum, signal_switched,
+};
+use sig_diff::{Content, Diffs, Entries, Items, Lists, MapDiff, MapDiffs, NoMemory, VecDiff};
+use sig_expr::{MapExpr, SigExpr, VecExpr, View, list_leaves, signal_leaves};
 use std::alloc::Global;
 
 // ---- what the leaves hold
@@ -55,7 +60,8 @@ fn entries_at(
 
 // ---- lists
 
-/// A list's operators, started on what its leaf holds, and its items.
+/// A list's operators, started on what its leaves hold, and its items. Its leaves have the numbers from `leaf` on.
+#[cycle(start)]
 fn list_node(
     alloc: Global,
     list: &VecExpr,
@@ -63,6 +69,7 @@ fn list_node(
     leaf: usize,
 ) -> Result<(ListNode, Items<i64>), NoMemory>
     requires built { IsListBuilt (vec_tree list.now) }
+    requires room { leaf + length (vec_leaves (vec_tree list.now)) ≤ length contents.now }
     requires short { vec_longest (list_length (content_in contents.now)) (number_vec (vec_tree list.now) leaf) ≤ 65536 }
     ensures started { IfOk result (λ made. IsListStarted (content_in contents.now) (number_vec (vec_tree list.now) leaf) (list_ops made.0) made.1) }
     ensures short { IfOk result (λ made. length made.1 ≤ 65536) }
@@ -77,48 +84,62 @@ fn list_node(
             let (of, items) = list_node(alloc, of.get(), contents, leaf)?;
             list_filtered(alloc, *pred, of, items)
         }
+        VecExpr::Sorted(fun, of) => {
+            let (of, items) = list_node(alloc, of.get(), contents, leaf)?;
+            list_sorted(alloc, *fun, of, items)
+        }
+        VecExpr::FilterBy(of, bank) => {
+            let behind = leaf + list_leaves(of.get());
+            let (of, items) = list_node(alloc, of.get(), contents, leaf)?;
+            let (bank, values) = signal_bank_nodes(alloc, bank.as_slice(), contents, behind)?;
+            list_filtered_by(alloc, of, items, bank, values)
+        }
+        VecExpr::MapBy(of, bank) => {
+            let behind = leaf + list_leaves(of.get());
+            let (of, items) = list_node(alloc, of.get(), contents, leaf)?;
+            let (bank, values) = signal_bank_nodes(alloc, bank.as_slice(), contents, behind)?;
+            list_mapped_by(alloc, of, items, bank, values)
+        }
+        VecExpr::Pick(of, bank) => {
+            let behind = leaf + signal_leaves(of.get());
+            let (of, chooser) = signal_node(alloc, of.get(), contents, leaf)?;
+            let (bank, lists) = list_bank_nodes(alloc, bank.as_slice(), contents, behind)?;
+            list_picked(alloc, of, chooser, bank, lists)
+        }
         _ => unreachable!(),
     }
 }
 
-/// The images of a list's items.
-fn list_mapped(
+/// The operators of a bank's lists, started on what their leaves hold, and the lists.
+#[cycle(start)]
+fn list_bank_nodes(
     alloc: Global,
-    fun: Fun,
-    of: ListNode,
-    items: Items<i64>,
-) -> Result<(ListNode, Items<i64>), NoMemory>
-    requires short { length items ≤ 65536 }
-    ensures ops { IfOk result (λ made. list_ops made.0 ≡ images fun (list_ops of)) }
-    ensures items { IfOk result (λ made. made.1 ≡ map (image fun) items) }
-    ensures short { IfOk result (λ made. length made.1 ≤ 65536) }
+    bank: &[VecExpr],
+    contents: &[Option<Content>],
+    leaf: usize,
+) -> Result<(ListBank, Lists), NoMemory>
+    requires built { AreListsBuilt (vec_trees (map vec_tree bank.now)) }
+    requires room { leaf + length (vecs_leaves (vec_trees (map vec_tree bank.now))) ≤ length contents.now }
+    requires short { vecs_longest (list_length (content_in contents.now)) (number_vecs (vec_trees (map vec_tree bank.now)) leaf) ≤ 65536 }
+    ensures started { IfOk result (λ made. AreListsStarted (content_in contents.now) (number_vecs (vec_trees (map vec_tree bank.now)) leaf) (lists_ops made.0) made.1) }
+    ensures short { IfOk result (λ made. All (λ items. length items ≤ 65536) made.1) }
 {
-    let mut op = MapOp::new(alloc, fun);
-    let images = op.start(&items)?;
-    Ok((ListNode::Map(op, Box::new(alloc, of)?), images))
-}
-
-/// The items of a list that pass.
-#[tactic(auto, using(sig_expr::proofs::Bounded::length_filter_within))]
-fn list_filtered(
-    alloc: Global,
-    pred: Pred,
-    of: ListNode,
-    items: Items<i64>,
-) -> Result<(ListNode, Items<i64>), NoMemory>
-    requires short { length items ≤ 65536 }
-    ensures ops { IfOk result (λ made. list_ops made.0 ≡ kept (record { tester = pred; items = items }) (list_ops of)) }
-    ensures items { IfOk result (λ made. made.1 ≡ filter (passes pred) items) }
-    ensures short { IfOk result (λ made. length made.1 ≤ 65536) }
-{
-    let mut op = FilterOp::new(alloc, pred);
-    let kept = op.start(&items)?;
-    Ok((ListNode::Filter(op, Box::new(alloc, of)?), kept))
+    let mut nodes = Vec::new(alloc);
+    let mut lists = Items::new(alloc);
+    let mut place = leaf;
+    'bank: for list in bank {
+        let (node, items) = list_node(alloc, list, contents, place)?;
+        nodes.push(node)?;
+        lists.push(items)?;
+        place += list_leaves(list);
+    }
+    Ok((list_bank(alloc, nodes)?, lists))
 }
 
 // ---- signals
 
-/// A signal's operators, started on what its leaf holds, and its value.
+/// A signal's operators, started on what its leaves hold, and its value. Its leaves have the numbers from `leaf` on.
+#[cycle(start)]
 fn signal_node(
     alloc: Global,
     signal: &SigExpr,
@@ -126,6 +147,7 @@ fn signal_node(
     leaf: usize,
 ) -> Result<(SignalNode, i64), NoMemory>
     requires built { IsSignalBuilt (sig_tree signal.now) }
+    requires room { leaf + length (sig_leaves (sig_tree signal.now)) ≤ length contents.now }
     requires short { sig_longest (list_length (content_in contents.now)) (number_sig (sig_tree signal.now) leaf) ≤ 65536 }
     ensures { IfOk result (λ made. IsSignalStarted (content_in contents.now) (number_sig (sig_tree signal.now) leaf) (signal_ops made.0) made.1) }
 {
@@ -139,9 +161,15 @@ fn signal_node(
             let (of, value) = signal_node(alloc, of.get(), contents, leaf)?;
             signal_deduped(alloc, of, value)
         }
+        SigExpr::Switch(of, bank) => {
+            let behind = leaf + signal_leaves(of.get());
+            let (of, chooser) = signal_node(alloc, of.get(), contents, leaf)?;
+            let (bank, values) = signal_bank_nodes(alloc, bank.as_slice(), contents, behind)?;
+            signal_switched(alloc, of, chooser, bank, values)
+        }
         SigExpr::Len(of) => {
             let (of, items) = list_node(alloc, of.get(), contents, leaf)?;
-            Ok(signal_len(of, items))
+            signal_len(alloc, of, items)
         }
         SigExpr::Sum(of) => {
             let (of, items) = list_node(alloc, of.get(), contents, leaf)?;
@@ -151,60 +179,41 @@ fn signal_node(
     }
 }
 
-/// The image of a signal.
-fn signal_mapped(
+/// The operators of a bank's signals, started on what their leaves hold, and their values.
+#[cycle(start)]
+fn signal_bank_nodes(
     alloc: Global,
-    fun: Fun,
-    of: SignalNode,
-    value: i64,
-) -> Result<(SignalNode, i64), NoMemory>
-    ensures ops { IfOk result (λ made. signal_ops made.0 ≡ image_of fun (signal_ops of)) }
-    ensures value { IfOk result (λ made. made.1 ≡ image fun value) }
+    bank: &[SigExpr],
+    contents: &[Option<Content>],
+    leaf: usize,
+) -> Result<(SignalBank, Items<i64>), NoMemory>
+    requires built { AreSignalsBuilt (sig_trees (map sig_tree bank.now)) }
+    requires room { leaf + length (sigs_leaves (sig_trees (map sig_tree bank.now))) ≤ length contents.now }
+    requires short { sigs_longest (list_length (content_in contents.now)) (number_sigs (sig_trees (map sig_tree bank.now)) leaf) ≤ 65536 }
+    ensures { IfOk result (λ made. AreSignalsStarted (content_in contents.now) (number_sigs (sig_trees (map sig_tree bank.now)) leaf) (signals_ops made.0) made.1) }
 {
-    Ok((SignalNode::Map(fun, Box::new(alloc, of)?), fun.call(value)))
-}
-
-/// A signal without repeated values.
-fn signal_deduped(alloc: Global, of: SignalNode, value: i64) -> Result<(SignalNode, i64), NoMemory>
-    ensures ops { IfOk result (λ made. signal_ops made.0 ≡ without_repeats value (signal_ops of)) }
-    ensures value { IfOk result (λ made. made.1 ≡ value) }
-{
-    let mut signal = Dedupe::new();
-    let value = signal.start(value);
-    Ok((SignalNode::Dedupe(signal, Box::new(alloc, of)?), value))
-}
-
-/// The length of a list.
-fn signal_len(of: ListNode, items: Items<i64>) -> (SignalNode, i64)
-    requires short { length items ≤ 65536 }
-    ensures ops { signal_ops result.0 ≡ count_of (length items) (list_ops of) }
-    ensures value { result.1 ≡ pos (length items) }
-{
-    let mut op = LenOp::new();
-    let value = op.start(&items);
-    (SignalNode::Len(op, of), value)
-}
-
-/// The total of a list.
-fn signal_sum(alloc: Global, of: ListNode, items: Items<i64>) -> Result<(SignalNode, i64), NoMemory>
-    requires short { length items ≤ 65536 }
-    ensures ops { IfOk result (λ made. signal_ops made.0 ≡ sum_of items (list_ops of)) }
-    ensures value { IfOk result (λ made. made.1 ≡ clamped (total items)) }
-{
-    let mut op = SumOp::new(alloc);
-    let value = op.start(&items)?;
-    Ok((SignalNode::Sum(op, of), value))
+    let mut nodes = Vec::new(alloc);
+    let mut values = Items::new(alloc);
+    let mut place = leaf;
+    'bank: for signal in bank {
+        let (node, value) = signal_node(alloc, signal, contents, place)?;
+        nodes.push(node)?;
+        values.push(value)?;
+        place += signal_leaves(signal);
+    }
+    Ok((signal_bank(alloc, nodes)?, values))
 }
 
 // ---- views
 
-/// A view's operators, started on what its leaf holds, and the body of its first row.
+/// A view's operators, started on what its leaves hold, and the body of its first row.
 pub fn view_node(
     alloc: Global,
     view: &View,
     contents: &[Option<Content>],
 ) -> Result<(ViewNode, Body), NoMemory>
     requires built { IsBuilt (view_tree view.now) }
+    requires room { length (leaves (view_tree view.now)) ≤ length contents.now }
     requires short { longest (list_length (content_in contents.now)) (numbered (view_tree view.now)) ≤ 65536 }
     ensures { IfOk result (λ made. IsViewStarted (content_in contents.now) (numbered (view_tree view.now)) (view_ops made.0) made.1) }
 {

@@ -1,8 +1,10 @@
 ghost use Rattle.std.specs.Prelude.{◌≡◌, ◌<◌, ◌≤◌, ◌+◌, ◌^◌, true, false, length, replicate, None, IfOk, OnOk, OnErr};
 ghost use Rattle.sig_expr.specs.Bounds.{cap_of};
+ghost use Rattle.sig_expr.specs.Awaited.{awaits};
 ghost use Rattle.sig_expr.specs.Leaves.{leaves};
 ghost use Rattle.sig_expr.specs.Shapes.{view_tree};
 ghost use Rattle.sig_hist.specs.Ports.{PortState};
+ghost use Rattle.sig_hist.specs.Sources.{AreDistinct};
 ghost use Rattle.sig_view.specs.Built.{IsBuilt};
 ghost use Rattle.sig_view.specs.Fetching.{at_start, content_in};
 ghost use Rattle.sig_view.specs.FirstPolls.{HasBegun};
@@ -178,6 +180,7 @@ impl ViewTask {
         requires fetching { begun self.old.stage ≡ false }
         requires built { IsBuilt (view_tree self.old.view) }
         requires short { longest (list_length (content_in (contents_got self.old.stage))) (view_of self.old) ≤ 65536 }
+        requires room { length (leaves (view_tree self.old.view)) ≤ length (contents_got self.old.stage) }
         ensures poll { (s t : PortState) (old : ViewTask) → HasBegun s t old self.old → self.old.walk.held ≡ None → IsPoll s t old self.new told result }
     {
         match self.first_row() {
@@ -201,6 +204,7 @@ impl ViewTask {
         requires fetching { begun self.now.stage ≡ false }
         requires built { IsBuilt (view_tree self.now.view) }
         requires short { longest (list_length (content_in (contents_got self.now.stage))) (view_of self.now) ≤ 65536 }
+        requires room { length (leaves (view_tree self.now.view)) ≤ length (contents_got self.now.stage) }
         ensures at { IfOk result (λ made. made.1.at ≡ self.now.walk.positions) }
         ensures started { IfOk result (λ made. IsViewStarted (content_in (contents_got self.now.stage)) (view_of self.now) (view_ops made.0) made.1.body) }
     {
@@ -400,11 +404,12 @@ fn walk_on<P: Port>(
     requires follows { following stage.old ≡ true }
     requires can { CanWalk (P.state port.old) walk.old }
     requires leaves { HasLeaves walk.old (leaves (view_tree_of (ops_of stage.old))) }
+    requires apart { AreDistinct (leaves (view_tree_of (ops_of stage.old))) }
     requires short { longest (cap_at (sources_in (P.state port.old) walk.old)) (view_tree_of (ops_of stage.old)) ≤ 65536 }
     requires stands { ViewStands (contents_at (sources_in (P.state port.old) walk.old) walk.old.positions) (ops_of stage.old) }
     ensures same { P.is_same port.old port.new }
     ensures gone { HasGone (P.state port.old) (P.state port.new) walk.old walk.new }
-    ensures walked { OnOk result (HasWalked (P.state port.old) (P.state port.new) (set_out walk.old) walk.new (leaves (view_tree_of (ops_of stage.old)))) }
+    ensures walked { OnOk result (HasWalked (P.state port.old) (P.state port.new) (set_out walk.old) walk.new (awaits (contents_at (sources_in (P.state port.new) walk.new) walk.new.positions) (view_tree_of (ops_of stage.old)))) }
     ensures flow { IfOk result (λ body. body ≡ flow (ways (sources_in (P.state port.new) walk.new) walk.old.positions walk.new.positions) (view_tree_of (ops_of stage.old))) }
     ensures stands { OnOk result (ViewStands (contents_at (sources_in (P.state port.new) walk.new) walk.new.positions) (ops_of stage.new)) }
     ensures tree { OnOk result (view_tree_of (ops_of stage.new) ≡ view_tree_of (ops_of stage.old)) }

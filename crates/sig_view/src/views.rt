@@ -1,5 +1,7 @@
 ghost use Rattle.std.specs.Prelude.{◌≡◌, ◌≤◌, IfOk, OnOk};
+ghost use Rattle.sig_expr.specs.Awaited.{awaits};
 ghost use Rattle.sig_expr.specs.Leaves.{leaves};
+ghost use Rattle.sig_hist.specs.Sources.{AreDistinct};
 ghost use Rattle.sig_view.specs.Flow.{flow};
 ghost use Rattle.sig_view.specs.Longest.{longest};
 ghost use Rattle.sig_view.specs.Nodes.{view_ops, view_tree_of, ViewStands};
@@ -23,11 +25,12 @@ impl ViewNode {
     ) -> Result<Body, NoMemory>
         requires can { CanWalk (P.state port.old) walk.old }
         requires leaves { HasLeaves walk.old (leaves (view_tree_of (view_ops self.old))) }
+        requires apart { AreDistinct (leaves (view_tree_of (view_ops self.old))) }
         requires short { longest (cap_at (sources_in (P.state port.old) walk.old)) (view_tree_of (view_ops self.old)) ≤ 65536 }
         requires stands { ViewStands (contents_at (sources_in (P.state port.old) walk.old) walk.old.positions) (view_ops self.old) }
         ensures same { P.is_same port.old port.new }
         ensures gone { HasGone (P.state port.old) (P.state port.new) walk.old walk.new }
-        ensures walked { OnOk result (HasWalked (P.state port.old) (P.state port.new) walk.old walk.new (leaves (view_tree_of (view_ops self.old)))) }
+        ensures walked { OnOk result (HasWalked (P.state port.old) (P.state port.new) walk.old walk.new (awaits (contents_at (sources_in (P.state port.new) walk.new) walk.new.positions) (view_tree_of (view_ops self.old)))) }
         ensures flow { IfOk result (λ body. body ≡ flow (ways (sources_in (P.state port.new) walk.new) walk.old.positions walk.new.positions) (view_tree_of (view_ops self.old))) }
         ensures stands { OnOk result (ViewStands (contents_at (sources_in (P.state port.new) walk.new) walk.new.positions) (view_ops self.new)) }
         ensures tree { OnOk result (view_tree_of (view_ops self.new) ≡ view_tree_of (view_ops self.old)) }

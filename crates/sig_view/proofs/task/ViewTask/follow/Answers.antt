@@ -1,5 +1,5 @@
 use Rattle.std.proofs.Common.{◌≡◌, ◌∙◌}
-use Rattle.sig_view.proofs.Finishing.{can_wait, ends, finished, finished_again, found_nothing, paused, paused_not, still_ready, waits}
+use Rattle.sig_view.proofs.Finishing.{behind, can_wait, ends, finished, finished_again, found_nothing, paused, paused_not, still_ready, waits}
 use Rattle.sig_view.proofs.task.ViewTask.follow.Goals as goal
 
 pub wait-requires-clause-can : goal.wait-requires-clause-can
@@ -15,6 +15,13 @@ look_again-requires-clause-ready g c =
     let t = g.P.Port.state c.go_on.new.port in
     let nothing = found_nothing s t c.args.self.now c.go_on.new.self c.args.told c.in-Nowhere.told c.in-Nowhere.ensures.gone_on in
     still_ready t (g.P.Port.state c.wait.new.port) c.go_on.new.self _ c.in-News.ensures.waited.0.listened nothing.stepped.ready c.wait.ensures.sound
+
+pub look_again-requires-clause-behind : goal.look_again-requires-clause-behind
+look_again-requires-clause-behind g c =
+    let s = g.P.Port.state c.args.port.now in
+    let t = g.P.Port.state c.go_on.new.port in
+    let nothing = found_nothing s t c.args.self.now c.go_on.new.self c.args.told c.in-Nowhere.told c.in-Nowhere.ensures.gone_on in
+    behind s t c.args.self.now c.go_on.new.self c.requires.follows c.requires.ready nothing (g.P.Port.state c.wait.new.port) c.in-News.ensures.waited.0
 
 pub returns-in-Answered-clause-poll : goal.returns-in-Answered-clause-poll
 returns-in-Answered-clause-poll g c =

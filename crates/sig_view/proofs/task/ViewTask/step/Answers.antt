@@ -1,4 +1,4 @@
-use Rattle.sig_view.proofs.Stepping.{has_leaves, lost, short_now, stepped, tree_held}
+use Rattle.sig_view.proofs.Stepping.{are_apart, has_leaves, lost, short_now, stepped, tree_held}
 use Rattle.sig_view.specs.GoingOn.{ops_of}
 use Rattle.sig_view.specs.Nodes.{view_tree_of}
 use Rattle.sig_view.specs.Tasks.{contents_of, view_of}
@@ -8,6 +8,11 @@ pub walk_on-requires-clause-leaves : goal.walk_on-requires-clause-leaves
 walk_on-requires-clause-leaves g c =
     let task = c.args.self.now in
     has_leaves task c.requires.ready.is_task (view_tree_of (ops_of task.stage)) (tree_held (contents_of (g.P.Port.state c.args.port.now) task) (view_of task) task.stage c.requires.follows c.requires.ready.holds)
+
+pub walk_on-requires-clause-apart : goal.walk_on-requires-clause-apart
+walk_on-requires-clause-apart g c =
+    let task = c.args.self.now in
+    are_apart task c.requires.ready.is_task (view_tree_of (ops_of task.stage)) (tree_held (contents_of (g.P.Port.state c.args.port.now) task) (view_of task) task.stage c.requires.follows c.requires.ready.holds)
 
 pub walk_on-requires-clause-short : goal.walk_on-requires-clause-short
 walk_on-requires-clause-short g c =
