@@ -1,6 +1,6 @@
-ghost use Rattle.std.specs.Prelude.{◌≡◌};
-ghost use Rattle.sig_expr.specs.Shapes.{map_tree, sig_tree, vec_tree};
-ghost use Rattle.sig_script.specs.Built.{unbuilt, unbuilt_list, unbuilt_map, unbuilt_signal, unbuilt_view, unbuilt_views};
+ghost use Rattle.std.specs.Prelude.{◌≡◌, map};
+ghost use Rattle.sig_expr.specs.Shapes.{map_tree, sig_tree, sig_trees, vec_tree, vec_trees};
+ghost use Rattle.sig_script.specs.Built.{unbuilt, unbuilt_list, unbuilt_lists, unbuilt_map, unbuilt_signal, unbuilt_signals, unbuilt_view, unbuilt_views};
 ghost use Rattle.sig_script.specs.Finding.{Finds};
 ghost use Rattle.sig_script.specs.Paths.{here_unless};
 
@@ -44,6 +44,7 @@ fn unbuilt_view(alloc: Global, view: &View) -> Result<(), Stop>
     }
 }
 
+#[cycle(parts)]
 fn unbuilt_signal(alloc: Global, signal: &SigExpr) -> Result<(), Stop>
     ensures { Finds result (unbuilt_signal (sig_tree signal.now)) }
 {
@@ -51,22 +52,61 @@ fn unbuilt_signal(alloc: Global, signal: &SigExpr) -> Result<(), Stop>
         SigExpr::Cell(_) => Ok(()),
         SigExpr::Map(_, of) => below(alloc, "of", unbuilt_signal(alloc, of.get())),
         SigExpr::Dedupe(of) => below(alloc, "dedupe", unbuilt_signal(alloc, of.get())),
+        SigExpr::Switch(of, bank) => {
+            below(alloc, "switch", unbuilt_signal(alloc, of.get()))?;
+            below(alloc, "bank", unbuilt_signals(alloc, bank.as_slice()))
+        }
         SigExpr::Len(of) => below(alloc, "len", unbuilt_list(alloc, of.get())),
         SigExpr::Sum(of) => below(alloc, "sum", unbuilt_list(alloc, of.get())),
-        SigExpr::Switch(..) | SigExpr::Key(..) => here_unless(alloc, false),
+        SigExpr::Key(..) => here_unless(alloc, false),
     }
 }
 
+#[cycle(parts)]
 fn unbuilt_list(alloc: Global, list: &VecExpr) -> Result<(), Stop>
     ensures { Finds result (unbuilt_list (vec_tree list.now)) }
 {
     match list {
         VecExpr::Vector(_) => Ok(()),
-        VecExpr::Map(_, of) | VecExpr::Filter(_, of) => {
+        VecExpr::Map(_, of) | VecExpr::Filter(_, of) | VecExpr::Sorted(_, of) => {
             below(alloc, "of", unbuilt_list(alloc, of.get()))
         }
-        _ => here_unless(alloc, false),
+        VecExpr::FilterBy(of, bank) => {
+            below(alloc, "of", unbuilt_list(alloc, of.get()))?;
+            below(alloc, "filter_by", unbuilt_signals(alloc, bank.as_slice()))
+        }
+        VecExpr::MapBy(of, bank) => {
+            below(alloc, "of", unbuilt_list(alloc, of.get()))?;
+            below(alloc, "map_by", unbuilt_signals(alloc, bank.as_slice()))
+        }
+        VecExpr::Pick(of, bank) => {
+            below(alloc, "pick", unbuilt_signal(alloc, of.get()))?;
+            below(alloc, "bank", unbuilt_lists(alloc, bank.as_slice()))
+        }
+        VecExpr::Concat(..) | VecExpr::Flatten(..) | VecExpr::Keys(_) | VecExpr::Values(_) => {
+            here_unless(alloc, false)
+        }
     }
+}
+
+#[cycle(parts)]
+fn unbuilt_signals(alloc: Global, bank: &[SigExpr]) -> Result<(), Stop>
+    ensures { Finds result (unbuilt_signals 0 (sig_trees (map sig_tree bank.now))) }
+{
+    'signals: for (place, signal) in bank.iter().enumerate() {
+        below_place(alloc, place, unbuilt_signal(alloc, signal))?;
+    }
+    Ok(())
+}
+
+#[cycle(parts)]
+fn unbuilt_lists(alloc: Global, bank: &[VecExpr]) -> Result<(), Stop>
+    ensures { Finds result (unbuilt_lists 0 (vec_trees (map vec_tree bank.now))) }
+{
+    'lists: for (place, list) in bank.iter().enumerate() {
+        below_place(alloc, place, unbuilt_list(alloc, list))?;
+    }
+    Ok(())
 }
 
 /// Whether a map is a source, and no other is built.

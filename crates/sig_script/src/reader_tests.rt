@@ -49,7 +49,7 @@ const CELL: &str = r#"[{"name":"c","cell":1},{"name":"a","vector":[]}]"#;
 const VIEW: &str = r#"[{"name":"f","vector":{"vector":"a"}}]"#;
 
 /// Sources, writers, views, and the number and path of the refusal.
-const REFUSED: [(&str, &str, &str, u32, &str); 40] = [
+const REFUSED: [(&str, &str, &str, u32, &str); 43] = [
     (
         r#"[{"name":"a","vector":[1.5]}]"#,
         "[]",
@@ -243,11 +243,32 @@ const REFUSED: [(&str, &str, &str, u32, &str); 40] = [
         "/views/0/vector/bank",
     ),
     (
-        CELL,
+        r#"[{"name":"m","map":[]}]"#,
         "[]",
-        r#"[{"name":"f","signal":{"dedupe":{"switch":{"cell":"c"},"bank":[{"cell":"c"}]}}}]"#,
+        r#"[{"name":"f","signal":{"dedupe":{"key":1,"default":0,"of":{"map":"m"}}}}]"#,
         8,
         "/views/0/signal/dedupe",
+    ),
+    (
+        CELL,
+        "[]",
+        r#"[{"name":"f","signal":{"switch":{"cell":"c"},"bank":[{"cell":"c"},{"len":{"concat":[{"vector":"a"},{"vector":"a"}]}}]}}]"#,
+        8,
+        "/views/0/signal/bank/1/len",
+    ),
+    (
+        CELL,
+        "[]",
+        r#"[{"name":"f","vector":{"pick":{"cell":"c"},"bank":[{"sorted":"neg","of":{"vector":"a"}},{"concat":[{"vector":"a"},{"vector":"a"}]}]}}]"#,
+        8,
+        "/views/0/vector/bank/1",
+    ),
+    (
+        VECTOR,
+        "[]",
+        r#"[{"name":"f","vector":{"filter_by":[{"len":{"concat":[{"vector":"a"},{"vector":"a"}]}}],"of":{"concat":[{"vector":"a"},{"vector":"a"}]}}}]"#,
+        8,
+        "/views/0/vector/of",
     ),
     (
         VECTOR,
@@ -266,7 +287,7 @@ const REFUSED: [(&str, &str, &str, u32, &str); 40] = [
     (
         VECTOR,
         "[]",
-        r#"[{"name":"f","vector":{"filter":"even","of":{"sorted":{"add":1},"of":{"vector":"a"}}}}]"#,
+        r#"[{"name":"f","vector":{"filter":"even","of":{"flatten":{"vector":"a"},"bank":[{"vector":"a"}]}}}]"#,
         8,
         "/views/0/vector/of",
     ),
