@@ -19,4 +19,4 @@ pub use filtering::{FilterOp, filtered};
 pub use following::follow;
 pub use mapping::{MapOp, image};
 pub use operators::VecOp;
-pub use signals::{Dedupe, LenOp, SumOp};
+pub use signals::{Dedupe, LenOp, SumOp, resized};

@@ -61,7 +61,7 @@ impl LenOp {
 }
 
 /// How long a list is after a difference, from how long it was before it.
-fn resized(len: u32, diff: &VecDiff<i64>) -> u32
+pub fn resized(len: u32, diff: &VecDiff<i64>) -> u32
     requires short { resized len diff.now ≤ 65536 }
     ensures { result ≡ resized len diff.now }
 {
