@@ -4,7 +4,8 @@ use Rattle.std.proofs.lemmas.List.{append-nil, length-append, take-append-le}
 use Rattle.sig_hist.specs.Histories.{is_closed}
 use Rattle.sig_hist.specs.Sources.{Source, writers_of}
 use Rattle.sig_hist.specs.declared.edits.Entry.{Entry}
-use Rattle.sig_view.specs.Flow.{Way, before, behind, passed, state_at}
+use Rattle.sig_view.proofs.Along.{AreAlike}
+use Rattle.sig_view.specs.Flow.{state_at}
 use Rattle.sig_view.specs.SoundRows.{leaf_source}
 
 pub record Grows (source later : Source) : Type 0 where
@@ -39,13 +40,7 @@ same_front source later position grows within = rw grows.on (take-append-le posi
 pub same_state : (source later : Source) (position : ℕ) → Grows source later → position ≤ length source.history → state_at source position ≡ state_at later position
 same_state source later position grows within = rw (grows.plan, same_front source later position grows within) refl
 
--- on two ways the same is passed, from the same content to the same
-pub record AreAlike (way other : Way) : Type 0 where
-  pub cap : way.source.plan.cap ≡ other.source.plan.cap
-  pub before : before way ≡ before other
-  pub behind : behind way ≡ behind other
-  pub passed : passed way ≡ passed other
-
+-- the same is passed of both
 pub alike_ways : (source later : Source) (from to : ℕ) → Grows source later → from ≤ to → to ≤ length source.history →
     AreAlike (record { source = source; from = from; to = to }) (record { source = later; from = from; to = to })
 alike_ways source later from to grows ahead within = record {

@@ -1,80 +1,18 @@
--- The leaves of a numbered view have the numbers from 0 on, and whether one of them is awaited is decided by those before it.
-use Rattle.std.proofs.Common.{◌≡◌, ◌∙◌, ℕ, zero, suc, ◌+◌, ◌<◌, ◌≤◌, ◌==◌, ℤ, List, [], ◌∷◌, ◌++◌, length, get_or, false, ◌||◌, ◌⊎◌, inl, inr, refl, sym, ap, ap₂, arith}
+-- Whether a leaf of a numbered view is awaited is decided by the leaves before it.
+use Rattle.std.proofs.Common.{◌≡◌, ◌∙◌, ℕ, zero, suc, ◌+◌, ◌<◌, ◌≤◌, ◌==◌, ℤ, List, [], ◌++◌, length, get_or, false, ◌||◌, ◌⊎◌, inl, inr, refl, sym, ap, ap₂, arith}
 use Rattle.std.proofs.lemmas.Bool.{cases_lt, ne_eqb, or_parts}
-use Rattle.std.proofs.lemmas.List.{length-append}
 use Rattle.std.proofs.lemmas.List.Folds.{list_any-append}
-use Rattle.std.proofs.lemmas.List.FromFn.{length-range_with_len}
 use Rattle.std.specs.List.{range_with_len}
 use Rattle.sig_diff.specs.Choosing.{chosen}
 use Rattle.sig_diff.specs.Numbers.{class_of}
 use Rattle.sig_diff.specs.declared.contents.Content.{Content}
 use Rattle.sig_expr.proofs.Awaiting.{IsAmong, none, kept, left_out, agree_among, length_each_sig, length_each_vec, sig_among, sig_same, vec_among}
 use Rattle.sig_expr.specs.Awaited.{Agree, all_of, awaits, each_sig_awaits, each_vec_awaits, sig_awaits, vec_awaits}
-use Rattle.sig_expr.specs.Leaves.{leaves, map_leaves, sig_leaves, vec_leaves, sigs_leaves, vecs_leaves, number_map, number_sig, number_vec, number_sigs, number_vecs, numbered}
+use Rattle.sig_expr.specs.Leaves.{leaves, sig_leaves, vec_leaves, number_sig, number_vec, number_sigs, number_vecs, numbered}
 use Rattle.sig_expr.specs.Scratch.{value_of}
-use Rattle.sig_expr.specs.Trees.{MapTree, map_source, mapped_values, SigTree, cell, mapped_signal, deduped, switched, length_of, total_of, at_key, VecTree, vector, mapped, filtered, filtered_by, mapped_by, sorted, joined, flattened, picked, keys_in, values_in, SigTrees, no_signals, more_signals, VecTrees, no_lists, more_lists, ViewTree, signal_view, vector_view, map_view, entries_view, tagged_view}
+use Rattle.sig_expr.specs.Trees.{SigTree, cell, mapped_signal, deduped, switched, length_of, total_of, at_key, VecTree, vector, mapped, filtered, filtered_by, mapped_by, sorted, joined, flattened, picked, keys_in, values_in, SigTrees, no_signals, more_signals, VecTrees, no_lists, more_lists, ViewTree, signal_view, vector_view, map_view, entries_view, tagged_view}
 use Rattle.sig_hist.specs.Sources.{is_among}
-
--- ---- the numbers
-
-range_append : (first count more : ℕ) → range_with_len first count ++ range_with_len (first + count) more ≡ range_with_len first (count + more)
-range_append first zero more = ap₂ range_with_len (omega arith) (omega arith)
-range_append first (suc count) more =
-    let next : first + suc count ≡ first + 1 + count = omega arith in
-    let all : suc (count + more) ≡ suc count + more = omega arith in
-    ap (λ k. first ∷ range_with_len (first + 1) count ++ range_with_len k more) next ∙ ap (λ numbers. first ∷ numbers) (range_append (first + 1) count more) ∙ ap (range_with_len first) all
-
-module _ {L : Type 0} where
-  -- numbers behind numbers
-  both_numbered : {xs ys : List ℕ} (labels others : List L) (first : ℕ) → xs ≡ range_with_len first (length labels) → ys ≡ range_with_len (first + length labels) (length others) →
-      xs ++ ys ≡ range_with_len first (length (labels ++ others))
-  both_numbered labels others first front back = ap₂ ◌++◌ front back ∙ range_append first (length labels) (length others) ∙ ap (range_with_len first) (sym (length-append labels others))
-
-  map_numbers : (m : MapTree L) (first : ℕ) → map_leaves (number_map m first) ≡ range_with_len first (length (map_leaves m))
-  map_numbers (map_source l) first = refl
-  map_numbers (mapped_values f m) first = map_numbers m first
-
-  mutual
-    sig_numbers : (e : SigTree L) (first : ℕ) → sig_leaves (number_sig e first) ≡ range_with_len first (length (sig_leaves e))
-    sig_numbers (cell l) first = refl
-    sig_numbers (mapped_signal f e) first = sig_numbers e first
-    sig_numbers (deduped e) first = sig_numbers e first
-    sig_numbers (switched e bank) first = both_numbered (sig_leaves e) (sigs_leaves bank) first (sig_numbers e first) (sigs_numbers bank _)
-    sig_numbers (length_of e) first = vec_numbers e first
-    sig_numbers (total_of e) first = vec_numbers e first
-    sig_numbers (at_key key default m) first = map_numbers m first
-
-    vec_numbers : (e : VecTree L) (first : ℕ) → vec_leaves (number_vec e first) ≡ range_with_len first (length (vec_leaves e))
-    vec_numbers (vector l) first = refl
-    vec_numbers (mapped f e) first = vec_numbers e first
-    vec_numbers (filtered p e) first = vec_numbers e first
-    vec_numbers (filtered_by e bank) first = both_numbered (vec_leaves e) (sigs_leaves bank) first (vec_numbers e first) (sigs_numbers bank _)
-    vec_numbers (mapped_by e bank) first = both_numbered (vec_leaves e) (sigs_leaves bank) first (vec_numbers e first) (sigs_numbers bank _)
-    vec_numbers (sorted f e) first = vec_numbers e first
-    vec_numbers (joined a b) first = both_numbered (vec_leaves a) (vec_leaves b) first (vec_numbers a first) (vec_numbers b _)
-    vec_numbers (flattened e bank) first = both_numbered (vec_leaves e) (vecs_leaves bank) first (vec_numbers e first) (vecs_numbers bank _)
-    vec_numbers (picked e bank) first = both_numbered (sig_leaves e) (vecs_leaves bank) first (sig_numbers e first) (vecs_numbers bank _)
-    vec_numbers (keys_in m) first = map_numbers m first
-    vec_numbers (values_in m) first = map_numbers m first
-
-    sigs_numbers : (bank : SigTrees L) (first : ℕ) → sigs_leaves (number_sigs bank first) ≡ range_with_len first (length (sigs_leaves bank))
-    sigs_numbers no_signals first = refl
-    sigs_numbers (more_signals e bank) first = both_numbered (sig_leaves e) (sigs_leaves bank) first (sig_numbers e first) (sigs_numbers bank _)
-
-    vecs_numbers : (bank : VecTrees L) (first : ℕ) → vecs_leaves (number_vecs bank first) ≡ range_with_len first (length (vecs_leaves bank))
-    vecs_numbers no_lists first = refl
-    vecs_numbers (more_lists e bank) first = both_numbered (vec_leaves e) (vecs_leaves bank) first (vec_numbers e first) (vecs_numbers bank _)
-
-  -- the leaves of a numbered view are the numbers below their count
-  pub numbered_leaves : (view : ViewTree L) → leaves (numbered view) ≡ range_with_len 0 (length (leaves view))
-  numbered_leaves (signal_view e) = sig_numbers e 0
-  numbered_leaves (vector_view e) = vec_numbers e 0
-  numbered_leaves (map_view m) = map_numbers m 0
-  numbered_leaves (entries_view m) = map_numbers m 0
-  numbered_leaves (tagged_view e) = vec_numbers e 0
-
-pub numbered_count : {L : Type 0} (view : ViewTree L) → length (leaves (numbered view)) ≡ length (leaves view)
-numbered_count view = ap length (numbered_leaves view) ∙ length-range_with_len 0 (length (leaves view))
+use Rattle.sig_view.proofs.Numbering.{sig_numbers, vec_numbers}
 
 -- ---- what isn't among the leaves
 

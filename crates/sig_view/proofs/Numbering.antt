@@ -2,6 +2,8 @@
 use Rattle.std.proofs.Common.{◌≡◌, ◌∙◌, ℕ, zero, suc, ◌+◌, ◌*◌, ◌<◌, ◌≤◌, ◌==◌, max, List, [], ◌∷◌, ◌++◌, length, slice_index, Bool, true, false, All, refl, sym, ap, ap₂, subst, arith}
 use Rattle.std.proofs.lemmas.Bool.Decides.{nat_tests}
 use Rattle.std.proofs.lemmas.List.{length-append}
+use Rattle.std.proofs.lemmas.List.FromFn.{length-range_with_len}
+use Rattle.std.specs.List.{range_with_len}
 use Rattle.sig_expr.specs.Bounds.{greatest_bound, map_bound, vec_bound}
 use Rattle.sig_expr.specs.Leaves.{leaves, map_leaves, number_map, number_sig, number_sigs, number_vec, number_vecs, numbered, sig_leaves, sigs_leaves, vec_leaves, vecs_leaves}
 use Rattle.sig_expr.specs.Trees.{MapTree, map_source, mapped_values, SigTree, cell, mapped_signal, deduped, switched, length_of, total_of, at_key, VecTree, vector, mapped, filtered, filtered_by, mapped_by, sorted, joined, flattened, picked, keys_in, values_in, SigTrees, no_signals, more_signals, VecTrees, no_lists, more_lists, ViewTree, signal_view, vector_view, map_view, entries_view, tagged_view}
@@ -9,44 +11,34 @@ use Rattle.sig_hist.specs.Sources.{AreDistinct, is_among}
 use Rattle.sig_view.specs.Built.{AreListsBuilt, AreSignalsBuilt, IsBuilt, IsListBuilt, IsMapBuilt, IsSignalBuilt}
 use Rattle.sig_view.specs.Longest.{longest, sig_longest, sigs_longest, vec_longest, vecs_longest}
 
--- so many numbers, from this one on
-abbrev pub numbers : ℕ → ℕ → List ℕ
-numbers first zero = []
-numbers first (suc count) = first ∷ numbers (first + 1) count
+-- ---- numbers
 
-numbers_append : (first one other : ℕ) → numbers first (one + other) ≡ numbers first one ++ numbers (first + one) other
-numbers_append first zero other =
-    let here : first + 0 ≡ first = omega arith in
-    let all : 0 + other ≡ other = omega arith in
-    rw (here, all) refl
-numbers_append first (suc one) other =
-    let later : first + suc one ≡ first + 1 + one = omega arith in
-    let more : suc one + other ≡ suc (one + other) = omega arith in
-    rw (later, more) (ap (λ (rest : List ℕ). first ∷ rest) (numbers_append (first + 1) one other))
-
-pub length_numbers : (first count : ℕ) → length (numbers first count) ≡ count
-length_numbers first zero = refl
-length_numbers first (suc count) = ap suc (length_numbers (first + 1) count)
+range_append : (first count more : ℕ) → range_with_len first count ++ range_with_len (first + count) more ≡ range_with_len first (count + more)
+range_append first zero more = ap₂ range_with_len (omega arith) (omega arith)
+range_append first (suc count) more =
+    let next : first + suc count ≡ first + 1 + count = omega arith in
+    let all : suc (count + more) ≡ suc count + more = omega arith in
+    ap (λ k. first ∷ range_with_len (first + 1) count ++ range_with_len k more) next ∙ ap (λ numbers. first ∷ numbers) (range_append (first + 1) count more) ∙ ap (range_with_len first) all
 
 -- by whether the number is the first
 among_by : (first count leaf : ℕ) (same : Bool) → (first == leaf) ≡ same → (same ≡ false → (first + 1 ≤ leaf) × (leaf < first + 1 + count)) → (first ≤ leaf) × (leaf < first + suc count)
 among_by first count leaf true is later = let at : first ≡ leaf = grind (arith, nat_tests) in (omega (arith, at), omega (arith, at))
 among_by first count leaf false is later = let there = later refl in (omega (arith, there.0), omega (arith, there.1))
 
-among_numbers : (first count leaf : ℕ) → is_among leaf (numbers first count) ≡ true → (first ≤ leaf) × (leaf < first + count)
+among_numbers : (first count leaf : ℕ) → is_among leaf (range_with_len first count) ≡ true → (first ≤ leaf) × (leaf < first + count)
 among_numbers first zero leaf among = cc
 among_numbers first (suc count) leaf among = among_by first count leaf (first == leaf) refl (λ apart. among_numbers (first + 1) count leaf (rw apart at among))
 
-not_among_numbers : (first count leaf : ℕ) (among : Bool) → is_among leaf (numbers first count) ≡ among → leaf < first → among ≡ false
+not_among_numbers : (first count leaf : ℕ) (among : Bool) → is_among leaf (range_with_len first count) ≡ among → leaf < first → among ≡ false
 not_among_numbers first count leaf false is before = refl
 not_among_numbers first count leaf true is before = absurd (omega (arith, among_numbers first count leaf is, before))
 
-pub numbers_differ : (first count : ℕ) → AreDistinct (numbers first count)
+pub numbers_differ : (first count : ℕ) → AreDistinct (range_with_len first count)
 numbers_differ first zero = tt
 numbers_differ first (suc count) = (not_among_numbers (first + 1) count first _ refl (omega arith), numbers_differ (first + 1) count)
 
 -- what holds of each number up to an end
-pub all_numbers : (P : ℕ → Type 0) (first count : ℕ) → ((leaf : ℕ) → first ≤ leaf → leaf < first + count → P leaf) → All P (numbers first count)
+pub all_numbers : (P : ℕ → Type 0) (first count : ℕ) → ((leaf : ℕ) → first ≤ leaf → leaf < first + count → P leaf) → All P (range_with_len first count)
 all_numbers P first zero each k default within = absurd (omega (arith, within))
 all_numbers P first (suc count) each zero default within = each first (omega arith) (omega arith)
 all_numbers P first (suc count) each (suc k) default within = all_numbers P (first + 1) count (λ leaf from to. each leaf (omega (arith, from)) (omega (arith, to))) k default (omega (arith, within))
@@ -54,46 +46,48 @@ all_numbers P first (suc count) each (suc k) default within = all_numbers P (fir
 -- ---- leaves
 
 module _ {L : Type 0} where
-  both : (one other : List L) (first : ℕ) (front back : List ℕ) → front ≡ numbers first (length one) → back ≡ numbers (first + length one) (length other) → front ++ back ≡ numbers first (length (one ++ other))
-  both one other first front back is also = ap₂ ◌++◌ is also ∙ sym (numbers_append first (length one) (length other)) ∙ ap (numbers first) (sym (length-append one other))
+  -- numbers behind numbers
+  both_numbered : {xs ys : List ℕ} (labels others : List L) (first : ℕ) → xs ≡ range_with_len first (length labels) → ys ≡ range_with_len (first + length labels) (length others) →
+      xs ++ ys ≡ range_with_len first (length (labels ++ others))
+  both_numbered labels others first front back = ap₂ ◌++◌ front back ∙ range_append first (length labels) (length others) ∙ ap (range_with_len first) (sym (length-append labels others))
 
-  map_numbers : (m : MapTree L) (first : ℕ) → map_leaves (number_map m first) ≡ numbers first (length (map_leaves m))
+  pub map_numbers : (m : MapTree L) (first : ℕ) → map_leaves (number_map m first) ≡ range_with_len first (length (map_leaves m))
   map_numbers (map_source l) first = refl
   map_numbers (mapped_values f m) first = map_numbers m first
 
   mutual
-    sig_numbers : (e : SigTree L) (first : ℕ) → sig_leaves (number_sig e first) ≡ numbers first (length (sig_leaves e))
+    pub sig_numbers : (e : SigTree L) (first : ℕ) → sig_leaves (number_sig e first) ≡ range_with_len first (length (sig_leaves e))
     sig_numbers (cell l) first = refl
     sig_numbers (mapped_signal f e) first = sig_numbers e first
     sig_numbers (deduped e) first = sig_numbers e first
-    sig_numbers (switched e bank) first = both (sig_leaves e) (sigs_leaves bank) first _ _ (sig_numbers e first) (sigs_numbers bank (first + length (sig_leaves e)))
+    sig_numbers (switched e bank) first = both_numbered (sig_leaves e) (sigs_leaves bank) first (sig_numbers e first) (sigs_numbers bank (first + length (sig_leaves e)))
     sig_numbers (length_of e) first = vec_numbers e first
     sig_numbers (total_of e) first = vec_numbers e first
     sig_numbers (at_key key default m) first = map_numbers m first
 
-    vec_numbers : (e : VecTree L) (first : ℕ) → vec_leaves (number_vec e first) ≡ numbers first (length (vec_leaves e))
+    pub vec_numbers : (e : VecTree L) (first : ℕ) → vec_leaves (number_vec e first) ≡ range_with_len first (length (vec_leaves e))
     vec_numbers (vector l) first = refl
     vec_numbers (mapped f e) first = vec_numbers e first
     vec_numbers (filtered p e) first = vec_numbers e first
-    vec_numbers (filtered_by e bank) first = both (vec_leaves e) (sigs_leaves bank) first _ _ (vec_numbers e first) (sigs_numbers bank (first + length (vec_leaves e)))
-    vec_numbers (mapped_by e bank) first = both (vec_leaves e) (sigs_leaves bank) first _ _ (vec_numbers e first) (sigs_numbers bank (first + length (vec_leaves e)))
+    vec_numbers (filtered_by e bank) first = both_numbered (vec_leaves e) (sigs_leaves bank) first (vec_numbers e first) (sigs_numbers bank (first + length (vec_leaves e)))
+    vec_numbers (mapped_by e bank) first = both_numbered (vec_leaves e) (sigs_leaves bank) first (vec_numbers e first) (sigs_numbers bank (first + length (vec_leaves e)))
     vec_numbers (sorted f e) first = vec_numbers e first
-    vec_numbers (joined a b) first = both (vec_leaves a) (vec_leaves b) first _ _ (vec_numbers a first) (vec_numbers b (first + length (vec_leaves a)))
-    vec_numbers (flattened e bank) first = both (vec_leaves e) (vecs_leaves bank) first _ _ (vec_numbers e first) (vecs_numbers bank (first + length (vec_leaves e)))
-    vec_numbers (picked e bank) first = both (sig_leaves e) (vecs_leaves bank) first _ _ (sig_numbers e first) (vecs_numbers bank (first + length (sig_leaves e)))
+    vec_numbers (joined a b) first = both_numbered (vec_leaves a) (vec_leaves b) first (vec_numbers a first) (vec_numbers b (first + length (vec_leaves a)))
+    vec_numbers (flattened e bank) first = both_numbered (vec_leaves e) (vecs_leaves bank) first (vec_numbers e first) (vecs_numbers bank (first + length (vec_leaves e)))
+    vec_numbers (picked e bank) first = both_numbered (sig_leaves e) (vecs_leaves bank) first (sig_numbers e first) (vecs_numbers bank (first + length (sig_leaves e)))
     vec_numbers (keys_in m) first = map_numbers m first
     vec_numbers (values_in m) first = map_numbers m first
 
-    sigs_numbers : (bank : SigTrees L) (first : ℕ) → sigs_leaves (number_sigs bank first) ≡ numbers first (length (sigs_leaves bank))
+    sigs_numbers : (bank : SigTrees L) (first : ℕ) → sigs_leaves (number_sigs bank first) ≡ range_with_len first (length (sigs_leaves bank))
     sigs_numbers no_signals first = refl
-    sigs_numbers (more_signals e bank) first = both (sig_leaves e) (sigs_leaves bank) first _ _ (sig_numbers e first) (sigs_numbers bank (first + length (sig_leaves e)))
+    sigs_numbers (more_signals e bank) first = both_numbered (sig_leaves e) (sigs_leaves bank) first (sig_numbers e first) (sigs_numbers bank (first + length (sig_leaves e)))
 
-    vecs_numbers : (bank : VecTrees L) (first : ℕ) → vecs_leaves (number_vecs bank first) ≡ numbers first (length (vecs_leaves bank))
+    vecs_numbers : (bank : VecTrees L) (first : ℕ) → vecs_leaves (number_vecs bank first) ≡ range_with_len first (length (vecs_leaves bank))
     vecs_numbers no_lists first = refl
-    vecs_numbers (more_lists e bank) first = both (vec_leaves e) (vecs_leaves bank) first _ _ (vec_numbers e first) (vecs_numbers bank (first + length (vec_leaves e)))
+    vecs_numbers (more_lists e bank) first = both_numbered (vec_leaves e) (vecs_leaves bank) first (vec_numbers e first) (vecs_numbers bank (first + length (vec_leaves e)))
 
   -- the leaves of a view with numbers are the numbers from 0 on
-  pub leaves_are : (view : ViewTree L) → leaves (numbered view) ≡ numbers 0 (length (leaves view))
+  pub leaves_are : (view : ViewTree L) → leaves (numbered view) ≡ range_with_len 0 (length (leaves view))
   leaves_are (signal_view e) = sig_numbers e 0
   leaves_are (vector_view e) = vec_numbers e 0
   leaves_are (map_view m) = map_numbers m 0
@@ -101,7 +95,7 @@ module _ {L : Type 0} where
   leaves_are (tagged_view e) = vec_numbers e 0
 
   pub same_leaves : (view : ViewTree L) → length (leaves (numbered view)) ≡ length (leaves view)
-  same_leaves view = ap length (leaves_are view) ∙ length_numbers 0 (length (leaves view))
+  same_leaves view = ap length (leaves_are view) ∙ length-range_with_len 0 (length (leaves view))
 
   pub leaves_differ : (view : ViewTree L) → AreDistinct (leaves (numbered view))
   leaves_differ view = rw (leaves_are view) (numbers_differ 0 (length (leaves view)))
