@@ -45,7 +45,7 @@ fn run<R: Threads + Wait + Sync>(
 }
 
 /// Scripts, the status of each, and the text that is written.
-const PLAYS: [(&str, u8, &str); 23] = [
+const PLAYS: [(&str, u8, &str); 29] = [
     (SCRIPT, 0, REPORT),
     (STILL, 0, STILL_REPORT),
     (PASSED, 0, PASSED_REPORT),
