@@ -1,11 +1,9 @@
 -- What a block in the middle of a list turns into, where it moves, and where it takes a difference.
-use Rattle.std.specs.Prelude.{◌≡◌, ℕ, suc, ◌+◌, ◌-◌, ◌<◌, ◌≤◌, ◌==◌, ℤ, pos, nat_lt, List, [], ◌∷◌, ◌++◌, length, take, drop, insert, remove, slice_get, slice_set, slice_index_or, Bool, true, false, if◌then◌else◌, Some, refl}
+use Rattle.std.specs.Prelude.{◌≡◌, ℕ, ◌+◌, ◌-◌, ◌<◌, ◌≤◌, ◌==◌, ℤ, nat_lt, List, [], ◌∷◌, ◌++◌, length, take, drop, insert, remove, slice_get, slice_set, Bool, true, false, if◌then◌else◌, Some, refl}
 use Rattle.std.proofs.Common.{◌∙◌, ap, sym, append_assoc, arith}
 use Rattle.std.proofs.lemmas.Bool.{lt-ltb, le-leb, ltb-true, ltb-false, leb-true, eqb-true, and_parts}
-use Rattle.std.proofs.lemmas.List.{append-nil, length-append, length-take-le, take_at, drop_at, drop_all, take-append-drop, set-append_left, set-append_right}
-use Rattle.std.proofs.lemmas.List.Edits.{insert_end, length-remove, insert-append_left, insert-append_right, remove-append_left, remove-append_right}
-use Rattle.std.proofs.lemmas.Option.{slice_get-get_or}
-use Rattle.sig_diff.proofs.Blocks.{drop_from}
+use Rattle.std.proofs.lemmas.List.{append-nil, length-append, take_at, drop_at, drop_all, set-append_left, set-append_right}
+use Rattle.std.proofs.lemmas.List.Edits.{insert_end, insert-append_left, insert-append_right, remove-append_left, remove-append_right}
 use Rattle.sig_diff.proofs.Filtered.{remove_last}
 use Rattle.sig_diff.specs.declared.differences.VecDiff.{VecDiff}
 use Rattle.sig_diff.specs.declared.differences.VecDiff.TheVariants.{Replace, InsertAt, UpdateAt, RemoveAt, Move, Push, Pop, Clear}
@@ -13,6 +11,7 @@ use Rattle.sig_diff.specs.Differences.{IsLawful, applied, moved}
 use Rattle.sig_flat.specs.Flattening.{block_gives, block_moves, same_moves, shifts}
 use Rattle.sig_flat.specs.Runs.{inserts, removes}
 use Rattle.sig_flat.specs.RunsTurn.{inserts_turn, removes_turn}
+use Rattle.sig_flat.specs.Turning.{moved_left, moved_right}
 use Rattle.sig_ops.specs.Turns.{Turns}
 use Rattle.sig_ops.specs.TurnSteps.{turns_none, turns_one, turns_append}
 
@@ -178,27 +177,16 @@ module _ (before part after : List ℤ) where
   set_turn index x within =
       rw (← (set_within index x within)) (turns_one (before ++ (part ++ after)) (UpdateAt (length before + index) x) (lt-ltb _ _ (omega (arith, within, whole_length))))
 
+  moved_within : (old new : ℕ) → old < length part → new < length part → moved (before ++ (part ++ after)) (length before + old) (length before + new) ≡ before ++ (moved part old new ++ after)
+  moved_within old new within new_within = moved_right before (part ++ after) old new ∙ ap (λ ys. before ++ ys) (moved_left part after old new within new_within)
+
   move_turn : (old new : ℕ) → old < length part → new < length part → Turns (before ++ (part ++ after)) (Move (length before + old) (length before + new) ∷ []) (before ++ (moved part old new ++ after))
   move_turn old new within new_within =
-      let x : ℤ = slice_index_or part old (pos 0) in
-      let found : slice_get part old ≡ Some x = slice_get-get_or part old (pos 0) within in
-      let rest : List ℤ = remove part old in
-      let left : List ℤ = before ++ take old part in
-      let right : List ℤ = drop (suc old) part ++ after in
-      let p : List ℤ = before ++ take new rest in
-      let q : List ℤ = drop new rest ++ after in
-      let around : part ≡ take old part ++ (x ∷ drop (suc old) part) = rw (← (drop_from part old x found)) (sym (take-append-drop old part)) in
-      let whole : left ++ (x ∷ right) ≡ before ++ (part ++ after) =
-      append_assoc before (take old part) (x ∷ right) ∙ ap (λ ys. before ++ ys) (sym (append_assoc (take old part) (x ∷ drop (suc old) part) after) ∙ ap (λ ys. ys ++ after) (sym around)) in
-      let lefts : left ++ right ≡ before ++ (rest ++ after) =
-      append_assoc before (take old part) right ∙ ap (λ ys. before ++ ys) (sym (append_assoc (take old part) (drop (suc old) part) after)) in
-      let rights : p ++ q ≡ before ++ (rest ++ after) =
-      append_assoc before (take new rest) q ∙ ap (λ ys. before ++ ys) (sym (append_assoc (take new rest) (drop new rest) after) ∙ ap (λ ys. ys ++ after) (take-append-drop new rest)) in
-      let goal : p ++ (x ∷ q) ≡ before ++ ((take new rest ++ (x ∷ drop new rest)) ++ after) =
-      append_assoc before (take new rest) (x ∷ q) ∙ ap (λ ys. before ++ ys) (sym (append_assoc (take new rest) (x ∷ drop new rest) after)) in
-      let from : length left ≡ length before + old = length-append before (take old part) ∙ ap (λ n. length before + n) (length-take-le old part (omega (arith, within))) in
-      let to : length p ≡ length before + new = length-append before (take new rest) ∙ ap (λ n. length before + n) (length-take-le new rest (omega (arith, new_within, length-remove part old within))) in
-      rw found (rw (whole, goal, from, to) at (move_one left right p q x (lefts ∙ sym rights)))
+      let from : length before + old < length (before ++ (part ++ after)) = omega (arith, within, whole_length) in
+      let to : length before + new < length (before ++ (part ++ after)) = omega (arith, new_within, whole_length) in
+      let move : VecDiff ℤ = Move (length before + old) (length before + new) in
+      let lawful : IsLawful move (length (before ++ (part ++ after))) = rw (lt-ltb _ _ from, lt-ltb _ _ to) refl in
+      rw (← (moved_within old new within new_within)) (turns_one (before ++ (part ++ after)) move lawful)
 
   pop_turn : 0 < length part → Turns (before ++ (part ++ after)) (RemoveAt (length before + length part - 1) ∷ []) (before ++ (take (length part - 1) part ++ after))
   pop_turn some =

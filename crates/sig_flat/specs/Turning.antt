@@ -22,7 +22,7 @@ use Rattle.sig_ops.specs.TurnSteps.{turns_append, turns_one}
 module _ {T : Type 0} where
   -- ---- an element moves in one of two lists
 
-  moved_left : (left right : List T) (old_index new_index : ℕ) → old_index < length left → new_index < length left →
+  pub moved_left : (left right : List T) (old_index new_index : ℕ) → old_index < length left → new_index < length left →
       moved (left ++ right) old_index new_index ≡ moved left old_index new_index ++ right
   moved_left [] right old_index new_index old new = absurd (omega arith)
   moved_left (x ∷ left) right old_index new_index old new =
@@ -31,7 +31,7 @@ module _ {T : Type 0} where
       rw (slice_get-get_or (x ∷ left) old_index x old, slice_get-get_or (x ∷ left ++ right) old_index x within, get_or_append_left (x ∷ left) right x old_index old, remove-append_left (x ∷ left) right old_index old)
       (insert-append_left (remove (x ∷ left) old_index) right new_index (get_or (x ∷ left) old_index x) (omega (arith, rest, new)))
 
-  moved_right : (left right : List T) (old_index new_index : ℕ) → moved (left ++ right) (length left + old_index) (length left + new_index) ≡ left ++ moved right old_index new_index
+  pub moved_right : (left right : List T) (old_index new_index : ℕ) → moved (left ++ right) (length left + old_index) (length left + new_index) ≡ left ++ moved right old_index new_index
   moved_right [] right old_index new_index = rw (zero-add old_index, zero-add new_index) refl
   moved_right (x ∷ left) right old_index new_index =
       let old : length (x ∷ left) + old_index ≡ suc (length left + old_index) = omega arith in
