@@ -68,6 +68,7 @@ impl Switch {
             _ => self.set(child - 1, value),
         }
     }
+
     /// What it gives where the chooser goes to a value.
     fn choose(&mut self, value: i64) -> Option<i64>
         ensures value { result ≡ switch_gives self.old 0 value }

@@ -24,7 +24,7 @@ abbrev pub tag_at : List Tagged → ℕ → ℕ
 tag_at elements place = option_map_or (λ (element : Tagged). element.tag) (slice_get elements place) 0
 
 -- how many elements a difference makes: each of them has a tag of its own
-abbrev pub made : VecDiff ℤ → ℕ
+abbrev pub made : {T : Type 0} → VecDiff T → ℕ
 made (Replace values) = length values
 made (InsertAt index value) = 1
 made (Push value) = 1

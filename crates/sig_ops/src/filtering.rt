@@ -36,16 +36,6 @@ impl<T, P> FilterOp<T, P> {
     }
 }
 
-impl<T: Copy, P: Tester<T>> FilterOp<T, P> {
-    /// The items that pass.
-    pub fn passing(&self) -> Result<Items<T>, NoMemory>
-        requires { P.can_call self.now.tester }
-        ensures { IfOk result (λ kept. kept ≡ filter (P.passes self.now.tester) self.now.items) }
-    {
-        passing(self.items.alloc(), &self.tester, self.items.as_slice())
-    }
-}
-
 impl<T: Copy + Eq, P: Tester<T>> VecOp for FilterOp<T, P> {
     ghost use Rattle.std.specs.Prelude.{◌≡◌, length, filter, refl};
     ghost use Rattle.std.proofs.Common.{rules, ap};
