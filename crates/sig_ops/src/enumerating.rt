@@ -1,4 +1,4 @@
-ghost use Rattle.std.specs.Prelude.{◌≡◌, ◌++◌, ◌+◌, ◌<◌, ◌≤◌, ◌^◌, [], ◌∷◌, length, map, filter, IfOk, OnOk};
+ghost use Rattle.std.specs.Prelude.{◌≡◌, ◌++◌, ◌+◌, ◌<◌, ◌≤◌, ◌^◌, nat_lt, [], ◌∷◌, length, map, filter, IfOk, OnOk};
 ghost use Rattle.std.specs.Vec.{vec_len, vec_capacity};
 ghost use Rattle.sig_diff.specs.Differences.{IsLawful, applied};
 ghost use Rattle.sig_ops.specs.Enumerating.{enumerate_gives, enumeration_next, enumeration_of, made, place_of, tagged_from};
@@ -73,6 +73,13 @@ impl EnumerateOp {
             Ok(at) => Some(self.index[at].place),
             Err(_) => None,
         }
+    }
+
+    /// Whether there are tags left for a step, whatever it makes. There are 2^128 of them.
+    pub fn has_tags(&self) -> bool
+        ensures { result ≡ nat_lt (self.now.next + 65536) (2 ^ 128) }
+    {
+        self.next < u128::MAX - 65535
     }
 
     /// Makes a difference of the list, which was given with tags as `given`.

@@ -231,5 +231,6 @@ fn a_list_with_tags_follows(rt: HostRuntime) -> Result<(), Fail> {
         )
     );
     assert!(rt; op.place_of(2) == Some(1));
+    assert!(rt; op.has_tags());
     Ok(())
 }
