@@ -18,9 +18,9 @@ use Rattle.sig_view.specs.Fetching.{AreFetched, HasTried, LacksBy, at_start, con
 use Rattle.sig_view.specs.Longest.{longest}
 use Rattle.sig_view.specs.Nodes.{view_ops}
 use Rattle.sig_view.specs.Polling.{HasFetched, HasPolled, IsPoll, IsSameTask}
-use Rattle.sig_view.specs.SoundRows.{AreWithin, IsFirstRow}
+use Rattle.sig_view.specs.SoundRows.{AreWithin, IsFirstRow, nothing_seen, seen_after, tags_of}
 use Rattle.sig_view.specs.Starting.{IsViewStarted, list_length}
-use Rattle.sig_view.specs.Tasks.{CanPoll, Holds, IsNew, IsReady, begun, contents_got, contents_of, ended, failed, has_row, is_lacking, positions_of, rows_given, sources_of, view_of}
+use Rattle.sig_view.specs.Tasks.{CanPoll, Holds, IsNew, IsReady, begun, contents_got, contents_of, ended, failed, has_row, is_lacking, positions_of, rows_given, sources_of, tags_at, view_of}
 use Rattle.sig_view.specs.Walking.{CanWalk, HasGone, HasLooked, IsFresh, Progress, seen_sources, set_out}
 use Rattle.sig_view.specs.declared.nodes.ViewNode.{ViewNode}
 use Rattle.sig_view.specs.declared.rows.Row.{Row}
@@ -225,12 +225,13 @@ module _ (s t : PortState) (old new : ViewTask) (ready : IsReady s old) (before 
         let stands : IsViewStarted (contents_of t new) (view_of new) (view_ops node) row.body = rw all at started in
         let first : IsFirstRow (view_of old) (sources_of t new) row = record { within = rw at gone.can.within; whole = rw at (rw same.view at stands.body_is) } in
         let no_row_yet : has_row old ≡ false = no_row old.stage before in
+        let tags : tags_of (seen_after (nothing_seen (view_of old)) row.body) ≡ tags_at new = rw is (rw same.view at stands.tags) in
         record {
           ready = ready_after (rw is (stands.tree_is, stands.stands));
           same = same;
           polled = has_polled s t old.walk gone.looked;
           next = record { refused = sym (no_failure old.stage before); failed = rw (is, no_failure old.stage before) refl; ended = rw is refl; row = rw (is, no_row old.stage before) refl };
-          answer_is = record { at = at; sound = rw no_row_yet (first, has_fetched); same_token = refl; first_held = sym held ∙ tried.held };
+          answer_is = record { at = at; sound = rw no_row_yet (first, has_fetched, tags); same_token = refl; first_held = sym held ∙ tried.held };
         }
 
 module _ (s t : PortState) (old new : ViewTask) (begun_is : HasBegun s t old new) where

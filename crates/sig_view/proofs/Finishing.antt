@@ -10,11 +10,11 @@ use Rattle.sig_hist.specs.declared.ports.Met.{Met}
 use Rattle.sig_view.proofs.Leaving.{polled_again, polled_by_looks, polled_not, polled_of}
 use Rattle.sig_view.proofs.Listening.{not_closed, open_within, same_sources}
 use Rattle.sig_view.proofs.Staying.{seen_no_less}
-use Rattle.sig_view.proofs.Stepping.{KeepsPort, before_is, moved_on, next_row, ready_again, underway}
+use Rattle.sig_view.proofs.Stepping.{KeepsPort, before_is, moved_on, next_row, next_tags, ready_again, tags_stay, underway}
 use Rattle.sig_view.specs.GoingOn.{HasGoneOn, HasLost, HasStepped, IsBehind}
 use Rattle.sig_view.specs.Polling.{HasPolled, HasStayed, IsAtEnd, IsAtRest, IsLaterRow, IsNext, IsPoll, IsSameTask}
-use Rattle.sig_view.specs.SoundRows.{IsNextRow, IsShownBy, contents_at, is_awaited}
-use Rattle.sig_view.specs.Tasks.{IsReady, IsTask, contents_of, is_following, positions_of, sources_of, view_of}
+use Rattle.sig_view.specs.SoundRows.{IsNextRow, IsShownBy, Seen, contents_at, is_awaited}
+use Rattle.sig_view.specs.Tasks.{IsReady, IsTask, contents_of, is_following, positions_of, sources_of, tags_at, view_of}
 use Rattle.sig_view.specs.Waiting.{CanWait, HasListened, HasNews, HasRested, IsLast, IsLastOpen, is_open_leaf, is_open_mark}
 use Rattle.sig_view.specs.Walking.{IsCaughtUp, IsFresh, first_word, is_seen_closed, mark_of, met_since, was_held}
 use Rattle.sig_view.specs.declared.rows.Body.{Body}
@@ -36,9 +36,10 @@ pub record HasPaused (s t : PortState) (old mid : ViewTask) : Type 0 where
   pub stays : positions_of mid ≡ positions_of old
   pub met : t.met ≡ s.met
   pub contents : contents_of t mid ≡ contents_of s old
+  pub tags : tags_at mid ≡ tags_at old
 
 pub paused_not : (s : PortState) (task : ViewTask) → HasPaused s s task task
-paused_not s task = record { polled = polled_not s task.walk; same = record { view = refl; caps = refl; first = refl }; stays = refl; met = refl; contents = refl }
+paused_not s task = record { polled = polled_not s task.walk; same = record { view = refl; caps = refl; first = refl }; stays = refl; met = refl; contents = refl; tags = refl }
 
 same_task : (old mid new : ViewTask) → IsSameTask old mid → IsSameTask mid new → IsSameTask old new
 same_task old mid new first second = record { view = second.view ∙ first.view; caps = second.caps ∙ first.caps; first = second.first ∙ first.first }
@@ -101,12 +102,15 @@ module _ (s t u : PortState) (old mid new : ViewTask) (follows : is_following ol
     word_is : new.walk.held ≡ first_word (met_since s u)
     word_is = stepped.walked.held ∙ ap (λ (met : List Met). first_word (drop (length met) u.met)) paused.met
 
+    shown_there : (seen : Seen) → IsShownBy (view_of old) (contents_of s old) seen → IsShownBy (view_of mid) (contents_of t mid) seen
+    shown_there seen shows_it = rw (same_view, paused.contents) shows_it
+
     later_row : (row : Row) → row.body ≡ body → row.at ≡ positions_of new → new.walk.moved ≡ true → IsLaterRow s u old new row
     later_row row same_body at moved = record {
-      sound = λ shown shows_it.
-          let shown_there : IsShownBy (view_of mid) (contents_of t mid) shown = rw (same_view, paused.contents) shows_it in
-          let next : IsNextRow (view_of mid) (sources_of u new) (positions_of mid) shown (positions_of new) body = next_row t u mid new body ready stepped shown moved shown_there in
+      sound = λ seen shows_it tags.
+          let next : IsNextRow (view_of mid) (sources_of u new) (positions_of mid) seen (positions_of new) body = next_row t u mid new body ready stepped seen (shown_there seen shows_it) (tags ∙ sym paused.tags) moved in
           rw (at, same_body) (rw (same_view, paused.stays) at next);
+      tags = λ seen shows_it tags. rw same_body (next_tags t u mid new body ready stepped seen (shown_there seen shows_it) (tags ∙ sym paused.tags));
       fresh = fresh_each;
     }
 
@@ -128,6 +132,7 @@ module _ (s t u : PortState) (old mid new : ViewTask) (follows : is_following ol
     has_stayed still = record {
       row = (underway old.stage follows).rows;
       stays = (stepped.walked.stays still).1 ∙ paused.stays;
+      tags = λ follows. tags_stay t u mid new body ready stepped still ∙ paused.tags;
       fresh = fresh_each;
     }
 
@@ -198,6 +203,9 @@ module _ (s t : PortState) (old mid : ViewTask) (follows : is_following old ≡ 
   stepped : HasStepped s t old mid nothing.body
   stepped = nothing.stepped
 
+  same_tags : tags_at mid ≡ tags_at old
+  same_tags = tags_stay s t old mid nothing.body ready stepped nothing.still
+
   is_task : IsTask mid
   is_task = stepped.ready.is_task
 
@@ -243,6 +251,7 @@ module _ (s t : PortState) (old mid : ViewTask) (follows : is_following old ≡ 
         stays = stays;
         met = listened.met ∙ same_met s t stepped.looked.met (sym nothing.silent ∙ stepped.walked.held);
         contents = rw sources contents;
+        tags = same_tags;
       }
 
   -- what the look has shown is there for the next walk
@@ -275,7 +284,7 @@ module _ (s t : PortState) (old mid : ViewTask) (follows : is_following old ≡ 
         polled = polled_by_looks s t old.walk stepped.looked;
         next = record { refused = sym was.no_failure; failed = rw was.no_failure refl; ended = refl; row = rw was.rows refl };
         answer_is = record {
-          stayed = record { row = was.rows; stays = stays; fresh = fresh_there };
+          stayed = record { row = was.rows; stays = stays; tags = λ follows. cc; fresh = fresh_there };
           ended = λ leaf awaited. at_end leaf none awaited;
         };
       }
@@ -317,7 +326,7 @@ module _ (s t : PortState) (old mid : ViewTask) (follows : is_following old ≡ 
           polled = polled_for u true listened.polled;
           next = record { refused = sym was.no_failure; failed = rw (is.no_failure, was.no_failure) refl; ended = is.no_end; row = rw (is.rows, was.rows) refl };
           answer_is = record {
-            stayed = record { row = was.rows; stays = stays; fresh = λ leaf awaited. fresh_later leaf (among_still leaf awaited) };
+            stayed = record { row = was.rows; stays = stays; tags = λ follows. same_tags; fresh = λ leaf awaited. fresh_later leaf (among_still leaf awaited) };
             rests = λ leaf awaited. at_rest_by leaf _ (among_still leaf awaited) refl;
             some = (last, awaited, closed_later (mid.walk.first + last) ∙ not_closed t mid.walk last (caught_up last among) is_last.opens);
           };

@@ -1,5 +1,5 @@
 -- A view's first row.
-use Rattle.std.proofs.Common.{◌≡◌, ◌≢◌, ◌∙◌, ℕ, zero, suc, ◌+◌, ◌<◌, ◌≤◌, pos, List, [], ◌∷◌, length, take, get_or, slice_get, slice_index, nat_lt, Bool, true, false, Option, None, Some, unwrap_or, refl, sym, ap, arith, zero-le, le_trans}
+use Rattle.std.proofs.Common.{◌≡◌, ◌≢◌, ◌∙◌, ℕ, zero, suc, ◌+◌, ◌<◌, ◌≤◌, ℤ, pos, List, [], ◌∷◌, length, take, get_or, slice_get, slice_index, nat_lt, Bool, true, false, Option, None, Some, unwrap_or, refl, sym, ap, arith, zero-le, le_trans}
 use Rattle.std.proofs.lemmas.Bool.Decides.{nat_tests}
 use Rattle.std.proofs.lemmas.Option.{slice_get-get_or}
 use Rattle.std.proofs.Math.ListN.{get_or-eq_default}
@@ -16,6 +16,14 @@ use Rattle.sig_hist.specs.Ports.{IsSoundPort, PortState}
 use Rattle.sig_hist.specs.declared.edits.Entry.{Entry}
 use Rattle.sig_view.proofs.Staying.{source_of_leaf}
 use Rattle.sig_view.specs.Fetching.{AreFetched, content_in, is_missing, is_nothing}
+use Rattle.sig_ops.specs.EnumerateTurns.{enumeration_stands}
+use Rattle.sig_ops.specs.Enumerating.{enumeration_of, tagged_from}
+use Rattle.sig_expr.specs.Trees.{VecTree, tagged_view}
+use Rattle.sig_diff.specs.declared.differences.VecDiff.TheVariants.{Replace}
+use Rattle.sig_view.proofs.Tags.{as_many_tags}
+use Rattle.sig_view.specs.Nodes.{ListOps, ViewOps, tagged}
+use Rattle.sig_view.specs.Starting.{IsListStarted, IsViewStarted}
+use Rattle.sig_view.specs.declared.rows.Body.{Body}
 use Rattle.sig_view.specs.Flow.{state_at}
 use Rattle.sig_view.specs.SoundRows.{contents_at, leaf_source}
 use Rattle.sig_view.specs.Walking.{seen_source, seen_sources}
@@ -91,3 +99,15 @@ fetched_at s first positions contents are none leaf = by_bound leaf (length posi
 pub all_fetched : (s : PortState) (first : ℕ) (positions : List ℕ) (contents : List (Option Content)) → AreFetched (contents_at (seen_sources s first (length positions)) positions) (length positions) contents →
     ((leaf : ℕ) → leaf < length positions → is_missing contents leaf ≡ false) → content_in contents ≡ contents_at (seen_sources s first (length positions)) positions
 all_fetched s first positions contents are none = λ i leaf. fetched_at s first positions contents are none leaf i
+
+-- a list with tags as a view, started on its items
+pub enumerated : (s : ℕ → Content) (tree : VecTree ℕ) (ops : ListOps) (items : List ℤ) → IsListStarted s tree ops items → (made : ViewOps) (body : Body) → made ≡ tagged (enumeration_of items) ops →
+    body ≡ Body.Tagged (Replace (tagged_from 0 items) ∷ []) → IsViewStarted s (tagged_view tree) made body
+enumerated s tree ops items started made body made_is body_is =
+    let count : 0 + (length (tagged_from 0 items) + 0) ≡ length items = omega (arith, as_many_tags 0 items) in
+    rw (made_is, body_is) (record {
+      tree_is = ap tagged_view started.tree_is;
+      stands = (rw (started.tree_is, ← started.items_are) (enumeration_stands items), started.stands);
+      body_is = rw (← started.items_are) refl;
+      tags = ap (λ (next : ℕ). Some (record { elements = tagged_from 0 items; next = next })) count;
+    })

@@ -1,5 +1,5 @@
 -- What a view gives as its leaves go on leads from what it shows before to what it shows after.
-use Rattle.std.proofs.Common.{◌≡◌, ◌≢◌, ◌∙◌, ℕ, ◌≤◌, ℤ, pos, List, [], ◌∷◌, ◌++◌, length, filter_map, cond, Bool, true, false, not, Option, None, Some, option_map, option_and_then, refl, sym, ap}
+use Rattle.std.proofs.Common.{◌≡◌, ◌≢◌, ◌∙◌, ℕ, ◌+◌, ◌≤◌, ℤ, pos, List, [], ◌∷◌, ◌++◌, length, filter_map, cond, Bool, true, false, not, Option, None, Some, option_map, option_and_then, refl, sym, ap}
 use Rattle.std.specs.Option.{option_map_or, option_to_list, unwrap_or}
 use Rattle.std.specs.Ordering.{int_eq}
 use Rattle.std.proofs.lemmas.Bool.Decides.{Decides-int_eq}
@@ -26,12 +26,14 @@ use Rattle.sig_hist.specs.Histories.{changes_by, state}
 use Rattle.sig_hist.specs.declared.edits.Edit.{Edit}
 use Rattle.sig_hist.specs.declared.edits.Edit.TheVariants.{Put, Delete, Load, Wipe}
 use Rattle.sig_hist.specs.declared.edits.Entry.{Entry}
+use Rattle.sig_ops.specs.Enumerating.{Enumeration, IsEnumeration, values_of}
 use Rattle.sig_ops.specs.Signals.{given}
 use Rattle.sig_view.proofs.ByClass.{EachGoes, no_part, one_part, SignalsGo, filter_by_leads, map_by_leads, pick_leads, switch_leads}
+use Rattle.sig_view.proofs.Tags.{tags_differ, tags_follow, tags_lawful, tags_replay}
 use Rattle.sig_view.proofs.Turning.{Leads, behind_is, entering_leads, filter_keeps_up, map_leads, sorted_keeps_up, through_leads}
 use Rattle.sig_view.specs.Built.{AreListsBuilt, AreSignalsBuilt, IsBuilt, IsListBuilt, IsMapBuilt, IsSignalBuilt}
-use Rattle.sig_view.specs.Flow.{Way, before, flow, list_flow, list_flows, map_flow, new, old, passed, value_flow, value_flows}
-use Rattle.sig_view.specs.SoundRows.{IsLawfulBody, IsShownBy, shown_after, without_tags}
+use Rattle.sig_view.specs.Flow.{Way, before, flow, list_flow, list_flows, map_flow, new, old, passed, tags_after, value_flow, value_flows, with_tags}
+use Rattle.sig_view.specs.SoundRows.{IsLawfulBody, IsShownBy, TagsDiffer, shown_after, tags_in, tags_made, without_tags}
 
 -- ---- maps
 
@@ -183,23 +185,35 @@ module _ {L : Type 0} (way : L → Way) (ahead : (leaf : L) → (way leaf).from 
   map_flow_leads (map_source leaf) is = rw (behind_is (way leaf) (ahead leaf)) (map_entering_leads (before (way leaf)) (way leaf).source.plan.cap (passed (way leaf)))
   map_flow_leads _ is = absurd is
 
-  -- the body is lawful where the view's content before is shown, and the content after is shown then
-  pub record BodyLeads (view : ViewTree L) (seen : Shown) : Type 0 where
-    pub lawful : IsLawfulBody seen (flow way view)
-    pub replay : without_tags (shown_after seen (flow way view)) ≡ shows view (new way)
+  -- the body is lawful where the view's content before is shown, and the content after is shown then, with the tags that follow
+  pub record BodyLeads (view : ViewTree L) (seen : Shown) (next : ℕ) : Type 0 where
+    pub lawful : IsLawfulBody seen (with_tags (tags_in seen next) (flow way view))
+    pub replay : without_tags (shown_after seen (with_tags (tags_in seen next) (flow way view))) ≡ shows view (new way)
+    pub follow : tags_in (shown_after seen (with_tags (tags_in seen next) (flow way view))) (next + tags_made (with_tags (tags_in seen next) (flow way view))) ≡ tags_after (tags_in seen next) (flow way view)
+    pub differ : TagsDiffer (tags_after (tags_in seen next) (flow way view))
 
-  pub view_leads : (view : ViewTree L) (seen : Shown) → IsBuilt view → IsShownBy view (old way) seen → BodyLeads view seen
-  view_leads (signal_view e) (shown.Signal value) is shows_it =
-      let same : value ≡ value_of (old way) e = cc in
-      record { lawful = tt; replay = rw same (ap shown.Signal (sym (signal_leads e is))) }
-  view_leads (vector_view e) (shown.Vector items) is shows_it =
-      let same : items ≡ list_of (old way) e = cc in
+  pub view_leads : (view : ViewTree L) (seen : Shown) (next : ℕ) → IsBuilt view → IsShownBy view (old way) (record { shown = seen; next = next }) → BodyLeads view seen next
+  view_leads (signal_view e) (shown.Signal value) next is shows_it =
+      let same : value ≡ value_of (old way) e = (let shows = shows_it.shows in cc) in
+      record { lawful = tt; replay = rw same (ap shown.Signal (sym (signal_leads e is))); follow = refl; differ = tt }
+  view_leads (vector_view e) (shown.Vector items) next is shows_it =
+      let same : items ≡ list_of (old way) e = (let shows = shows_it.shows in cc) in
       let leads = flow_leads e is in
-      record { lawful = rw same leads.lawful; replay = rw same (ap shown.Vector leads.replay) }
-  view_leads (map_view m) (shown.Map pairs) is shows_it =
-      let same : pairs ≡ entries_of (old way) m = cc in
+      record { lawful = rw same leads.lawful; replay = rw same (ap shown.Vector leads.replay); follow = refl; differ = tt }
+  view_leads (map_view m) (shown.Map pairs) next is shows_it =
+      let same : pairs ≡ entries_of (old way) m = (let shows = shows_it.shows in cc) in
       let leads = map_flow_leads m is in
-      record { lawful = rw same leads.lawful; replay = rw same (ap shown.Map leads.replay) }
-  view_leads (entries_view m) seen is shows_it = absurd is
-  view_leads (tagged_view e) seen is shows_it = absurd is
-  view_leads _ _ is shows_it = cc
+      record { lawful = rw same leads.lawful; replay = rw same (ap shown.Map leads.replay); follow = refl; differ = tt }
+  view_leads (entries_view m) seen next is shows_it = absurd is
+  view_leads (tagged_view e) (shown.Tagged elements) next is shows_it =
+      let op : Enumeration = record { elements = elements; next = next } in
+      let same : values_of elements ≡ list_of (old way) e = (let shows = shows_it.shows in cc) in
+      let stands : IsEnumeration op (list_of (old way) e) = record { values = same; distinct = shows_it.tags.distinct; given_out = shows_it.tags.given_out } in
+      let leads = flow_leads e is in
+      record {
+        lawful = tags_lawful op _ _ (list_flow way e) stands leads;
+        replay = ap shown.Vector (tags_replay op _ _ (list_flow way e) stands leads);
+        follow = ap Some (tags_follow op (list_flow way e));
+        differ = tags_differ op _ _ (list_flow way e) stands leads;
+      }
+  view_leads _ _ next is shows_it = (let kind = shows_it.kind in let shows = shows_it.shows in cc)

@@ -1,6 +1,8 @@
 pub mod Turning
 pub mod ByClass
+pub mod Tags
 pub mod Leading
+pub mod Still
 pub mod Staying
 pub mod Later
 pub mod Arriving
@@ -22,6 +24,7 @@ pub mod Numbering
 pub mod Trees
 pub mod Shortening
 pub mod Values
+pub mod Tagging
 pub mod Leaving
 pub mod Listening
 pub mod Stepping

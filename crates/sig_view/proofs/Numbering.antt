@@ -251,4 +251,5 @@ module _ {L : Type 0} where
   numbered_built (signal_view e) is = signal_built e 0 is
   numbered_built (vector_view e) is = list_built e 0 is
   numbered_built (map_view m) is = map_built m 0 is
-  numbered_built _ is = absurd is
+  numbered_built (entries_view m) is = absurd is
+  numbered_built (tagged_view e) is = list_built e 0 is

@@ -1,24 +1,25 @@
 -- A walk over all leaves after the first row: what it needs, and what it leaves.
-use Rattle.std.proofs.Common.{◌≡◌, ◌∙◌, ℕ, suc, ◌+◌, ◌<◌, ◌≤◌, List, [], ◌∷◌, length, slice_index, true, false, refl, ap, arith, le_trans}
+use Rattle.std.proofs.Common.{◌≡◌, ◌∙◌, ℕ, suc, ◌+◌, ◌<◌, ◌≤◌, List, [], ◌∷◌, length, slice_index, true, false, Option, None, Some, refl, sym, ap, arith, le_trans}
 use Rattle.sig_diff.specs.declared.contents.Content.{Content}
 use Rattle.sig_expr.specs.Awaited.{awaits}
 use Rattle.sig_expr.specs.Bounds.{cap_of}
 use Rattle.sig_expr.specs.Leaves.{leaves}
 use Rattle.sig_expr.specs.Shapes.{view_tree}
-use Rattle.sig_expr.specs.Trees.{ViewTree}
-use Rattle.sig_expr.specs.declared.shown.Shown.{Shown}
+use Rattle.sig_expr.specs.Trees.{ViewTree, signal_view, vector_view, map_view, entries_view, tagged_view}
 use Rattle.sig_hist.specs.Ports.{PortState}
 use Rattle.sig_hist.specs.Sources.{AreDistinct, Source}
-use Rattle.sig_view.proofs.Leading.{view_leads}
+use Rattle.sig_ops.specs.Enumerating.{Enumeration}
+use Rattle.sig_view.proofs.Leading.{BodyLeads, view_leads}
+use Rattle.sig_view.proofs.Still.{still_list}
 use Rattle.sig_view.proofs.Composing.{go_on_at}
 use Rattle.sig_view.proofs.Numbering.{has_leaves as all_leaves, leaves_differ, numbered_built, view_short, within_caps}
 use Rattle.sig_view.proofs.Staying.{same_contents, source_of_leaf}
-use Rattle.sig_view.specs.Flow.{flow}
-use Rattle.sig_view.specs.GoingOn.{HasLost, HasStepped, failed_now, ops_of}
+use Rattle.sig_view.specs.Flow.{Way, flow, tags_after, with_tags}
+use Rattle.sig_view.specs.GoingOn.{HasLost, HasStepped, failed_now}
 use Rattle.sig_view.specs.Longest.{longest}
-use Rattle.sig_view.specs.Nodes.{ViewStands, view_tree_of}
-use Rattle.sig_view.specs.SoundRows.{GoOn, IsNextRow, IsShownBy, contents_at, ways}
-use Rattle.sig_view.specs.Tasks.{CanPoll, Holds, IsReady, IsTask, contents_of, ended, failed, following, is_following, positions_of, rows_given, sources_of, view_of}
+use Rattle.sig_view.specs.Nodes.{ViewStands, op_tags, view_tree_of}
+use Rattle.sig_view.specs.SoundRows.{GoOn, IsNextRow, IsShownBy, Seen, contents_at, seen_after, tags_of, ways}
+use Rattle.sig_view.specs.Tasks.{CanPoll, Holds, IsReady, IsTask, contents_of, ended, failed, following, is_following, ops_of, positions_of, rows_given, sources_of, tags_at, view_of}
 use Rattle.sig_view.specs.Walking.{CanWalk, HasGone, HasLeaves, HasLooked, HasWalked, Progress, cap_at, set_out, sources_in}
 use Rattle.sig_view.specs.declared.rows.Body.{Body}
 use Rattle.sig_view.specs.declared.task.Stage.{Stage}
@@ -112,9 +113,10 @@ module _ (s t : PortState) (old : ViewTask) (walk : Progress) (stage : Stage) (f
   old_tree = tree_held (contents_of s old) (view_of old) old.stage follows ready.holds
 
   pub stepped : (body : Body) → HasWalked s t (set_out old.walk) walk (awaits (contents_at (sources_in t walk) walk.positions) (view_tree_of (ops_of old.stage))) →
-      body ≡ flow (ways (sources_in t walk) old.walk.positions walk.positions) (view_tree_of (ops_of old.stage)) →
+      body ≡ with_tags (op_tags (ops_of old.stage)) (flow (ways (sources_in t walk) old.walk.positions walk.positions) (view_tree_of (ops_of old.stage))) →
+      op_tags (ops_of stage) ≡ tags_after (op_tags (ops_of old.stage)) (flow (ways (sources_in t walk) old.walk.positions walk.positions) (view_tree_of (ops_of old.stage))) →
       ViewStands (contents_at (sources_in t walk) walk.positions) (ops_of stage) → view_tree_of (ops_of stage) ≡ view_tree_of (ops_of old.stage) → following stage ≡ true → HasStepped s t old (moved_on old walk stage) body
-  stepped body walked flow_is stands tree still = record {
+  stepped body walked flow_is tags stands tree still = record {
     looked = gone.looked;
     ready = ready_again s t old walk stage ready (keeps_looked s t gone.looked) gone.first gone.leaves gone.can
         (follows_holds (contents_at (sources_in t walk) walk.positions) (view_of old) stage still (tree ∙ old_tree) stands);
@@ -122,6 +124,7 @@ module _ (s t : PortState) (old : ViewTask) (walk : Progress) (stage : Stage) (f
     follows = still;
     walked = rw old_tree at walked;
     flow_is = rw old_tree at flow_is;
+    tags = rw old_tree at tags;
   }
 
   pub lost : HasLost s t old (moved_on old walk (Failed true))
@@ -149,6 +152,19 @@ lost_later s t old new body stepped =
 
 -- ---- rows
 
+-- a list with tags makes none where its leaves stay
+nothing_made : (view : ViewTree ℕ) (way : ℕ → Way) → ((leaf : ℕ) → (way leaf).from ≡ (way leaf).to) → (tags : Option Enumeration) → tags_after tags (flow way view) ≡ tags
+nothing_made (signal_view e) way still None = refl
+nothing_made (signal_view e) way still (Some op) = refl
+nothing_made (vector_view e) way still None = refl
+nothing_made (vector_view e) way still (Some op) = rw (still_list way still e) refl
+nothing_made (map_view m) way still None = refl
+nothing_made (map_view m) way still (Some op) = refl
+nothing_made (entries_view m) way still None = refl
+nothing_made (entries_view m) way still (Some op) = refl
+nothing_made (tagged_view e) way still None = refl
+nothing_made (tagged_view e) way still (Some op) = rw (still_list way still e) refl
+
 pub go_on_length : (from to : List ℕ) → GoOn from to → length to ≡ length from
 go_on_length [] [] goes = refl
 go_on_length (old ∷ from) (new ∷ to) goes = ap suc (go_on_length from to goes.1)
@@ -162,17 +178,31 @@ module _ (s t : PortState) (old new : ViewTask) (body : Body) (ready : IsReady s
       let leaves : length (positions_of new) ≡ length (positions_of old) = go_on_length (positions_of old) (positions_of new) stepped.walked.goes_on in
       rw (stepped.same.first, leaves) (same_contents s t stepped.looked old.walk.first (length (positions_of old)) (positions_of old) ready.can.within)
 
-  pub next_row : (shown : Shown) → new.walk.moved ≡ true → IsShownBy (view_of old) (contents_of s old) shown → IsNextRow (view_of old) (sources_of t new) (positions_of old) shown (positions_of new) body
-  next_row shown moved shows_it =
-      let walked = stepped.walked in
-      let leads = view_leads (ways (sources_of t new) (positions_of old) (positions_of new)) (go_on_at (positions_of old) (positions_of new) walked.goes_on) (view_of old) shown
-      (numbered_built (view_tree old.view) ready.is_task.built) (rw before_is shows_it) in
-      record {
-        within = stepped.ready.can.within;
-        goes_on = walked.goes_on;
-        moves = walked.moves moved refl;
-        awaited = walked.others;
-        flow = stepped.flow_is;
-        lawful = rw stepped.flow_is leads.lawful;
-        replay = rw stepped.flow_is leads.replay;
-      }
+  module _ (seen : Seen) (shows_it : IsShownBy (view_of old) (contents_of s old) seen) (same_tags : tags_of seen ≡ tags_at old) where
+    leads : BodyLeads (ways (sources_of t new) (positions_of old) (positions_of new)) (go_on_at (positions_of old) (positions_of new) stepped.walked.goes_on) (view_of old) seen.shown seen.next
+    leads = view_leads (ways (sources_of t new) (positions_of old) (positions_of new)) (go_on_at (positions_of old) (positions_of new) stepped.walked.goes_on) (view_of old) seen.shown seen.next
+        (numbered_built (view_tree old.view) ready.is_task.built) (record { kind = shows_it.kind; shows = rw before_is shows_it.shows; tags = shows_it.tags })
+
+    body_is : body ≡ with_tags (tags_of seen) (flow (ways (sources_of t new) (positions_of old) (positions_of new)) (view_of old))
+    body_is = rw same_tags stepped.flow_is
+
+    pub next_row : new.walk.moved ≡ true → IsNextRow (view_of old) (sources_of t new) (positions_of old) seen (positions_of new) body
+    next_row moved = record {
+      within = stepped.ready.can.within;
+      goes_on = stepped.walked.goes_on;
+      moves = stepped.walked.moves moved refl;
+      awaited = stepped.walked.others;
+      flow = body_is;
+      lawful = rw body_is leads.lawful;
+      replay = rw body_is leads.replay;
+      tags = rw body_is (rw leads.follow leads.differ);
+    }
+
+    pub next_tags : tags_of (seen_after seen body) ≡ tags_at new
+    next_tags = rw body_is (leads.follow ∙ ap (λ (tags : Option Enumeration). tags_after tags (flow (ways (sources_of t new) (positions_of old) (positions_of new)) (view_of old))) same_tags ∙ sym stepped.tags)
+
+  -- where no leaf has gone on the tags stay
+  pub tags_stay : new.walk.moved ≡ false → tags_at new ≡ tags_at old
+  tags_stay still =
+      stepped.tags ∙ nothing_made (view_of old) (ways (sources_of t new) (positions_of old) (positions_of new))
+      (λ leaf. ap (λ (positions : List ℕ). slice_index positions leaf) (sym (stepped.walked.stays still).1)) (tags_at old)

@@ -1,5 +1,5 @@
 -- The expressions whose operators are built.
-use Rattle.sig_expr.specs.Trees.{SigTree, cell, mapped_signal, deduped, switched, length_of, total_of, VecTree, vector, mapped, filtered, filtered_by, mapped_by, sorted, picked, SigTrees, no_signals, more_signals, VecTrees, no_lists, more_lists, MapTree, map_source, ViewTree, signal_view, vector_view, map_view}
+use Rattle.sig_expr.specs.Trees.{SigTree, cell, mapped_signal, deduped, switched, length_of, total_of, VecTree, vector, mapped, filtered, filtered_by, mapped_by, sorted, picked, SigTrees, no_signals, more_signals, VecTrees, no_lists, more_lists, MapTree, map_source, ViewTree, signal_view, vector_view, map_view, entries_view, tagged_view}
 
 module _ {L : Type 0} where
   abbrev mutual
@@ -38,4 +38,5 @@ module _ {L : Type 0} where
   IsBuilt (signal_view e) = IsSignalBuilt e
   IsBuilt (vector_view e) = IsListBuilt e
   IsBuilt (map_view m) = IsMapBuilt m
-  IsBuilt _ = ⊥
+  IsBuilt (entries_view m) = ⊥
+  IsBuilt (tagged_view e) = IsListBuilt e

@@ -8,7 +8,6 @@ use Rattle.sig_diff.specs.Choosing.{chosen, is_let_in, raised_by}
 use Rattle.sig_diff.specs.Differences.{applied}
 use Rattle.sig_diff.specs.Numbers.{clamped, total}
 use Rattle.sig_diff.specs.declared.contents.Content.{Content}
-use Rattle.sig_diff.specs.declared.contents.Tagged.{Tagged}
 use Rattle.sig_diff.specs.declared.differences.VecDiff.{VecDiff}
 use Rattle.sig_diff.specs.declared.differences.VecDiff.TheVariants.{Replace}
 use Rattle.sig_diff.specs.declared.map_differences.MapDiff.{MapDiff}
@@ -23,6 +22,8 @@ use Rattle.sig_hist.specs.Entering.{list_entering, map_entering, number_entering
 use Rattle.sig_hist.specs.Histories.{state}
 use Rattle.sig_hist.specs.Sources.{Source}
 use Rattle.sig_hist.specs.declared.edits.Entry.{Entry}
+use Rattle.sig_ops.specs.Enumerating.{Enumeration, enumerate_gives, enumeration_next, tagged_from}
+use Rattle.sig_ops.specs.Following.{after_all, all_given}
 use Rattle.sig_ops.specs.Signals.{given}
 use Rattle.sig_ops.specs.Tables.{filter_gives, map_gives}
 use Rattle.sig_sort.specs.Sorted.{sorted_gives}
@@ -119,17 +120,22 @@ module _ {L : Type 0} (way : L → Way) where
     list_flows no_lists = []
     list_flows (more_lists e bank) = list_flow e ∷ list_flows bank
 
+  -- without tags
   abbrev pub flow : ViewTree L → Body
   flow (signal_view e) = body.Signal (value_flow e)
   flow (vector_view e) = body.Vector (list_flow e)
   flow (map_view m) = body.Map (map_flow m)
   flow (entries_view m) = body.Pairs []
-  flow (tagged_view e) = body.Tagged []
+  flow (tagged_view e) = body.Vector (list_flow e)
 
--- elements with tags, from this one on
-abbrev pub tagged_from : ℕ → List ℤ → List Tagged
-tagged_from tag [] = []
-tagged_from tag (x ∷ xs) = record { tag = tag; value = x } ∷ tagged_from (tag + 1) xs
+-- what a view gives whose elements have tags, and the tags after that
+abbrev pub with_tags : Option Enumeration → Body → Body
+with_tags (Some op) (body.Vector diffs) = body.Tagged (all_given enumeration_next enumerate_gives op diffs)
+with_tags _ given = given
+
+abbrev pub tags_after : Option Enumeration → Body → Option Enumeration
+tags_after (Some op) (body.Vector diffs) = Some (after_all enumeration_next op diffs)
+tags_after tags given = tags
 
 -- all that is shown, at once
 abbrev pub whole_body : Shown → Body

@@ -2,24 +2,17 @@
 use Rattle.std.specs.Prelude.{◌≡◌, ℕ, ◌<◌, ◌+◌, slice_index, true, false, None, Some}
 use Rattle.sig_expr.specs.Awaited.{awaits}
 use Rattle.sig_hist.specs.Ports.{PortState}
-use Rattle.sig_view.specs.Flow.{flow}
-use Rattle.sig_view.specs.Nodes.{ViewOps, map, view_ops}
+use Rattle.sig_view.specs.Flow.{flow, tags_after, with_tags}
 use Rattle.sig_view.specs.Polling.{IsSameTask}
 use Rattle.sig_view.specs.SoundRows.{is_awaited, ways}
-use Rattle.sig_view.specs.Tasks.{IsReady, contents_of, has_row, is_ended, is_failed, is_following, positions_of, sources_of, view_of}
+use Rattle.sig_view.specs.Tasks.{IsReady, contents_of, has_row, is_ended, is_failed, is_following, positions_of, sources_of, tags_at, view_of}
 use Rattle.sig_view.specs.Walking.{HasLooked, HasWalked, set_out}
 use Rattle.sig_view.specs.declared.rows.Body.{Body}
 use Rattle.sig_view.specs.declared.task.Going.{Going}
 use Rattle.sig_view.specs.declared.task.Going.TheVariants.{Answered, Nowhere}
 use Rattle.sig_view.specs.declared.task.Polled.TheVariants.{Again, Batch, NoMemory}
-use Rattle.sig_view.specs.declared.task.Stage.{Stage}
-use Rattle.sig_view.specs.declared.task.Stage.TheVariants.{Following, Failed}
+use Rattle.sig_view.specs.declared.task.Stage.TheVariants.{Failed}
 use Rattle.sig_view.specs.declared.task.ViewTask.{ViewTask}
-
--- the operators of a stage after the first row
-abbrev pub ops_of : Stage → ViewOps
-ops_of (Following node) = view_ops node
-ops_of stage = map 0
 
 abbrev pub failed_now : ViewTask → ViewTask
 failed_now task = record task { stage = Failed true }
@@ -31,7 +24,8 @@ pub record HasStepped (s t : PortState) (old new : ViewTask) (body : Body) : Typ
   pub same : IsSameTask old new
   pub follows : is_following new ≡ true
   pub walked : HasWalked s t (set_out old.walk) new.walk (awaits (contents_of t new) (view_of old))
-  pub flow_is : body ≡ flow (ways (sources_of t new) (positions_of old) (positions_of new)) (view_of old)
+  pub flow_is : body ≡ with_tags (tags_at old) (flow (ways (sources_of t new) (positions_of old) (positions_of new)) (view_of old))
+  pub tags : tags_at new ≡ tags_after (tags_at old) (flow (ways (sources_of t new) (positions_of old) (positions_of new)) (view_of old))
 
 -- memory was wanting
 pub record HasLost (s t : PortState) (old new : ViewTask) : Type 0 where

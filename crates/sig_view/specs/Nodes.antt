@@ -1,13 +1,14 @@
 -- The operators of a view as trees beside its expression, and when they stand for contents of the leaves.
-use Rattle.std.specs.Prelude.{◌≡◌, ℕ, ℤ, List, length, Bool, true, false}
+use Rattle.std.specs.Prelude.{◌≡◌, ℕ, ℤ, List, length, Bool, true, false, Option, None, Some}
 use Rattle.sig_bank.specs.Banks.{BySignals, Choice}
 use Rattle.sig_diff.specs.Sorting.{by_key, in_order}
 use Rattle.sig_diff.specs.declared.contents.Content.{Content}
 use Rattle.sig_expr.specs.Functions.{image}
 use Rattle.sig_expr.specs.Scratch.{list_of, lists_of, signals_of, value_of}
-use Rattle.sig_expr.specs.Trees.{SigTree, cell, mapped_signal, deduped, switched, length_of, total_of, VecTree, vector, mapped, filtered, filtered_by, mapped_by, sorted, picked, SigTrees, no_signals, more_signals, VecTrees, no_lists, more_lists, map_source, ViewTree, signal_view, vector_view, map_view}
+use Rattle.sig_expr.specs.Trees.{SigTree, cell, mapped_signal, deduped, switched, length_of, total_of, VecTree, vector, mapped, filtered, filtered_by, mapped_by, sorted, picked, SigTrees, no_signals, more_signals, VecTrees, no_lists, more_lists, map_source, ViewTree, signal_view, vector_view, map_view, tagged_view}
 use Rattle.sig_expr.specs.declared.functions.Fun.{Fun}
 use Rattle.sig_expr.specs.declared.functions.Pred.{Pred}
+use Rattle.sig_ops.specs.Enumerating.{Enumeration, IsEnumeration}
 use Rattle.sig_ops.specs.Filters.{Filter}
 use Rattle.sig_sort.specs.Sorted.{SortedList}
 use Rattle.sig_view.specs.declared.nodes.ListNode.{ListNode, ListNode-F, fold-ListNode}
@@ -160,18 +161,27 @@ pub data ViewOps : Type 0 where
   signal : SignalOps → ViewOps
   list : ListOps → ViewOps
   map : ℕ → ViewOps
+  tagged : Enumeration → ListOps → ViewOps
 
 abbrev pub view_ops : ViewNode → ViewOps
 view_ops (node.Signal of) = signal (signal_ops of)
 view_ops (node.Vector of) = list (list_ops of)
 view_ops (node.Map leaf) = map leaf
+view_ops (node.Enumerate op of) = tagged op (list_ops of)
 
 abbrev pub view_tree_of : ViewOps → ViewTree ℕ
 view_tree_of (signal ops) = signal_view (signal_tree ops)
 view_tree_of (list ops) = vector_view (list_tree ops)
 view_tree_of (map leaf) = map_view (map_source leaf)
+view_tree_of (tagged op ops) = tagged_view (list_tree ops)
 
 abbrev pub ViewStands : (ℕ → Content) → ViewOps → Type 0
 ViewStands s (signal ops) = SignalStands s ops
 ViewStands s (list ops) = ListStands s ops
 ViewStands s (map leaf) = Unit {0}
+ViewStands s (tagged op ops) = IsEnumeration op (list_of s (list_tree ops)) × ListStands s ops
+
+-- the elements with their tags, where a view's elements have tags
+abbrev pub op_tags : ViewOps → Option Enumeration
+op_tags (tagged op ops) = Some op
+op_tags ops = None

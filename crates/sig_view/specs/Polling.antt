@@ -1,11 +1,10 @@
 -- What a poll answers, and what it leaves.
 use Rattle.std.specs.Prelude.{◌≡◌, ℕ, ◌+◌, ◌-◌, ◌^◌, ◌≤◌, ◌==◌, ◌&&◌, ◌||◌, min, length, take, slice_index, nat_le, nat_lt, Bool, true, false, if◌then◌else◌, Option, Some}
-use Rattle.sig_expr.specs.declared.shown.Shown.{Shown}
 use Rattle.sig_hist.specs.Ports.{GoesOn, PortState, put, raised}
 use Rattle.sig_hist.specs.declared.ports.Condition.TheVariants.{Waiting}
 use Rattle.sig_hist.specs.declared.ports.Version.{Version}
-use Rattle.sig_view.specs.SoundRows.{IsFirstRow, IsNextRow, IsShownBy, is_awaited}
-use Rattle.sig_view.specs.Tasks.{IsReady, contents_of, has_row, is_ended, is_failed, is_lacking, positions_of, sources_of, view_of}
+use Rattle.sig_view.specs.SoundRows.{IsFirstRow, IsNextRow, IsShownBy, Seen, is_awaited, nothing_seen, seen_after, tags_of}
+use Rattle.sig_view.specs.Tasks.{IsReady, contents_of, has_row, is_ended, is_failed, is_following, is_lacking, positions_of, sources_of, tags_at, view_of}
 use Rattle.sig_view.specs.Walking.{IsFresh, Progress, first_word, is_seen_closed, met_since}
 use Rattle.sig_view.specs.declared.rows.Row.{Row}
 use Rattle.sig_view.specs.declared.task.Polled.{Polled}
@@ -48,6 +47,7 @@ module _ (s t : PortState) (old new : ViewTask) where
   pub record HasStayed : Type 0 where
     pub row : has_row old ≡ true
     pub stays : positions_of new ≡ positions_of old
+    pub tags : is_following new ≡ true → tags_at new ≡ tags_at old
     pub fresh : (leaf : ℕ) → IsAwaited leaf → IsFresh s t new.walk leaf
 
   -- before the first row each leaf is fetched that was lacking, and the others stay
@@ -56,14 +56,16 @@ module _ (s t : PortState) (old new : ViewTask) where
     pub stays : (leaf : ℕ) → is_lacking old.stage leaf ≡ false → slice_index (positions_of new) leaf ≡ slice_index (positions_of old) leaf
     pub fresh : (leaf : ℕ) → is_lacking old.stage leaf ≡ true → IsFresh s t new.walk leaf
 
-  -- a row after the first: sound, whatever is shown that is the view's content before it
+  -- a row after the first: sound, whatever was seen that is the view's content before it, with the tags that the task has; and the
+  -- tags after it are the task's
   pub record IsLaterRow (row : Row) : Type 0 where
-    pub sound : (shown : Shown) → IsShownBy (view_of old) (contents_of s old) shown → IsNextRow (view_of old) (sources_of t new) (positions_of old) shown row.at row.body
+    pub sound : (seen : Seen) → IsShownBy (view_of old) (contents_of s old) seen → tags_of seen ≡ tags_at old → IsNextRow (view_of old) (sources_of t new) (positions_of old) seen row.at row.body
+    pub tags : (seen : Seen) → IsShownBy (view_of old) (contents_of s old) seen → tags_of seen ≡ tags_at old → tags_of (seen_after seen row.body) ≡ tags_at new
     pub fresh : (leaf : ℕ) → IsAwaited leaf → IsFresh s t new.walk leaf
 
   -- by whether a row was given
   abbrev pub IsRow : Bool → Row → Type 0
-  IsRow false row = IsFirstRow (view_of old) (sources_of t new) row × HasFetched
+  IsRow false row = IsFirstRow (view_of old) (sources_of t new) row × HasFetched × (tags_of (seen_after (nothing_seen (view_of old)) row.body) ≡ tags_at new)
   IsRow true row = IsLaterRow row
 
   -- the leaf is at the end of its source's history

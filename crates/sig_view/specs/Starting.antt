@@ -5,7 +5,8 @@ use Rattle.sig_diff.specs.declared.contents.Content.{Content}
 use Rattle.sig_expr.specs.Scratch.{list_of, lists_of, signals_of, value_of}
 use Rattle.sig_expr.specs.Trees.{SigTree, SigTrees, VecTree, VecTrees, ViewTree}
 use Rattle.sig_view.specs.Flow.{first_body}
-use Rattle.sig_view.specs.Nodes.{ListOps, ListsOps, SignalOps, SignalsOps, ViewOps, ListStands, ListsStand, SignalStands, SignalsStand, ViewStands, list_tree, list_trees, no_list, no_signal, one_list, one_signal, signal_tree, signal_trees, view_tree_of}
+use Rattle.sig_view.specs.Nodes.{ListOps, ListsOps, SignalOps, SignalsOps, ViewOps, ListStands, ListsStand, SignalStands, SignalsStand, ViewStands, list_tree, list_trees, no_list, no_signal, one_list, one_signal, op_tags, signal_tree, signal_trees, view_tree_of}
+use Rattle.sig_view.specs.SoundRows.{nothing_seen, seen_after, tags_of}
 use Rattle.sig_view.specs.declared.rows.Body.{Body}
 
 -- how long the list of each leaf is
@@ -41,6 +42,7 @@ pub record IsViewStarted (s : ℕ → Content) (tree : ViewTree ℕ) (ops : View
   pub tree_is : view_tree_of ops ≡ tree
   pub stands : ViewStands s ops
   pub body_is : body ≡ first_body tree s
+  pub tags : tags_of (seen_after (nothing_seen tree) body) ≡ op_tags ops
 
 -- parts before those of a bank, by what a bank with one more part in front is
 abbrev pub parts_before : {O B : Type 0} → (O → B → B) → List O → B → B

@@ -8,10 +8,11 @@ use Rattle.sig_expr.specs.Trees.{ViewTree}
 use Rattle.sig_expr.specs.declared.expressions.View.{View}
 use Rattle.sig_hist.specs.Ports.{GoesOn, IsSoundPort, PortState}
 use Rattle.sig_hist.specs.Sources.{Source}
+use Rattle.sig_ops.specs.Enumerating.{Enumeration}
 use Rattle.sig_view.specs.Built.{IsBuilt}
 use Rattle.sig_view.specs.Fetching.{AreFetched}
 use Rattle.sig_view.specs.Longest.{longest}
-use Rattle.sig_view.specs.Nodes.{ViewStands, view_ops, view_tree_of}
+use Rattle.sig_view.specs.Nodes.{ViewOps, ViewStands, map, op_tags, view_ops, view_tree_of}
 use Rattle.sig_view.specs.SoundRows.{contents_at}
 use Rattle.sig_view.specs.Walking.{CanWalk, sources_in}
 use Rattle.sig_view.specs.declared.task.Stage.{Stage}
@@ -79,6 +80,15 @@ is_begun task = begun task.stage
 
 abbrev pub is_following : ViewTask → Bool
 is_following task = following task.stage
+
+-- the operators of a stage after the first row
+abbrev pub ops_of : Stage → ViewOps
+ops_of (Following node) = view_ops node
+ops_of stage = map 0
+
+-- the elements with their tags as its operators have them, where they have tags
+abbrev pub tags_at : ViewTask → Option Enumeration
+tags_at task = op_tags (ops_of task.stage)
 
 -- the contents before the first row
 abbrev pub contents_got : Stage → List (Option Content)

@@ -1,6 +1,6 @@
 use sig_bank::{FilterBy, MapBy, Pick, Switch};
 use sig_expr::{Fun, Pred};
-use sig_ops::{Dedupe, FilterOp, LenOp, MapOp, SumOp};
+use sig_ops::{Dedupe, EnumerateOp, FilterOp, LenOp, MapOp, SumOp};
 use sig_sort::SortedOp;
 
 /// A list's operators, each with what it has to keep of the parts below it.
@@ -53,4 +53,5 @@ pub enum ViewNode {
     Vector(ListNode),
     /// A map, by its leaf's number.
     Map(usize),
+    Enumerate(EnumerateOp, ListNode),
 }

@@ -6,7 +6,8 @@ ghost use Rattle.sig_expr.specs.Shapes.{sig_tree, sig_trees, vec_tree, vec_trees
 ghost use Rattle.sig_view.specs.Built.{AreListsBuilt, AreSignalsBuilt, IsBuilt, IsListBuilt, IsSignalBuilt};
 ghost use Rattle.sig_view.specs.Fetching.{content_in};
 ghost use Rattle.sig_view.specs.Longest.{longest, sig_longest, sigs_longest, vec_longest, vecs_longest};
-ghost use Rattle.sig_view.specs.Nodes.{list_ops, lists_ops, signal_ops, signals_ops, view_ops};
+ghost use Rattle.sig_ops.specs.Enumerating.{enumeration_of, tagged_from};
+ghost use Rattle.sig_view.specs.Nodes.{list_ops, lists_ops, signal_ops, signals_ops, tagged, view_ops};
 ghost use Rattle.sig_view.specs.Starting.{AreListsStarted, AreSignalsStarted, IsListStarted, IsSignalStarted, IsViewStarted, list_length};
 
 use crate::nodes::{ListBank, ListNode, SignalBank, SignalNode, ViewNode};
@@ -20,6 +21,7 @@ use crate::starting_signals::{
 };
 use sig_diff::{Content, Diffs, Entries, Items, Lists, MapDiff, MapDiffs, NoMemory, VecDiff};
 use sig_expr::{MapExpr, SigExpr, VecExpr, View, list_leaves, signal_leaves};
+use sig_ops::{EnumerateOp, VecOp};
 use std::alloc::Global;
 
 // ---- what the leaves hold
@@ -233,12 +235,34 @@ pub fn view_node(
             let entries = entries_at(alloc, contents, 0)?;
             Ok((ViewNode::Map(0), Body::Map(all_entries(alloc, entries)?)))
         }
+        View::Enumerate(of) => {
+            let (node, items) = list_node(alloc, of, contents, 0)?;
+            view_enumerated(alloc, node, items)
+        }
         _ => unreachable!(),
     }
 }
 
+/// A list with tags, and the body of its first row.
+fn view_enumerated(
+    alloc: Global,
+    of: ListNode,
+    items: Items<i64>,
+) -> Result<(ViewNode, Body), NoMemory>
+    requires short { length items ≤ 65536 }
+    ensures ops { IfOk result (λ made. view_ops made.0 ≡ tagged (enumeration_of items) (list_ops of)) }
+    ensures body { IfOk result (λ made. made.1 ≡ Body.Tagged (VecDiff.Replace (tagged_from 0 items) ∷ [])) }
+{
+    let mut op = EnumerateOp::new(alloc);
+    let elements = op.start(&items)?;
+    Ok((
+        ViewNode::Enumerate(op, of),
+        Body::Tagged(all_items(alloc, elements)?),
+    ))
+}
+
 /// The difference from the empty list to these items.
-fn all_items(alloc: Global, values: Items<i64>) -> Result<Diffs<i64>, NoMemory>
+fn all_items<T: Drop>(alloc: Global, values: Items<T>) -> Result<Diffs<T>, NoMemory>
     ensures { IfOk result (λ diffs. diffs ≡ VecDiff.Replace values ∷ []) }
 {
     let mut diffs = Diffs::new(alloc);

@@ -8,14 +8,14 @@ ghost use Rattle.sig_hist.specs.Sources.{AreDistinct};
 ghost use Rattle.sig_view.specs.Built.{IsBuilt};
 ghost use Rattle.sig_view.specs.Fetching.{at_start, content_in};
 ghost use Rattle.sig_view.specs.FirstPolls.{HasBegun};
-ghost use Rattle.sig_view.specs.Flow.{flow};
-ghost use Rattle.sig_view.specs.GoingOn.{HasGoneOn, HasLost, HasStepped, IsAnswered, IsBehind, ops_of};
+ghost use Rattle.sig_view.specs.Flow.{flow, tags_after, with_tags};
+ghost use Rattle.sig_view.specs.GoingOn.{HasGoneOn, HasLost, HasStepped, IsAnswered, IsBehind};
 ghost use Rattle.sig_view.specs.Longest.{longest};
-ghost use Rattle.sig_view.specs.Nodes.{view_ops, view_tree_of, ViewStands};
+ghost use Rattle.sig_view.specs.Nodes.{op_tags, view_ops, view_tree_of, ViewStands};
 ghost use Rattle.sig_view.specs.Polling.{IsPoll, IsSameTask};
 ghost use Rattle.sig_view.specs.SoundRows.{contents_at, ways};
 ghost use Rattle.sig_view.specs.Starting.{IsViewStarted, list_length};
-ghost use Rattle.sig_view.specs.Tasks.{IsNew, IsReady, begun, contents_got, first_of, following, has_row, is_begun, is_ended, is_following, positions_of, view_of};
+ghost use Rattle.sig_view.specs.Tasks.{IsNew, IsReady, begun, contents_got, first_of, following, has_row, is_begun, is_ended, is_following, ops_of, positions_of, view_of};
 ghost use Rattle.sig_view.specs.Walking.{CanWalk, HasGone, HasLeaves, HasWalked, cap_at, set_out, sources_in};
 ghost use Rattle.sig_view.specs.declared.task.ViewTask.{ViewTask};
 
@@ -410,7 +410,8 @@ fn walk_on<P: Port>(
     ensures same { P.is_same port.old port.new }
     ensures gone { HasGone (P.state port.old) (P.state port.new) walk.old walk.new }
     ensures walked { OnOk result (HasWalked (P.state port.old) (P.state port.new) (set_out walk.old) walk.new (awaits (contents_at (sources_in (P.state port.new) walk.new) walk.new.positions) (view_tree_of (ops_of stage.old)))) }
-    ensures flow { IfOk result (λ body. body ≡ flow (ways (sources_in (P.state port.new) walk.new) walk.old.positions walk.new.positions) (view_tree_of (ops_of stage.old))) }
+    ensures flow { IfOk result (λ body. body ≡ with_tags (op_tags (ops_of stage.old)) (flow (ways (sources_in (P.state port.new) walk.new) walk.old.positions walk.new.positions) (view_tree_of (ops_of stage.old)))) }
+    ensures tags { OnOk result (op_tags (ops_of stage.new) ≡ tags_after (op_tags (ops_of stage.old)) (flow (ways (sources_in (P.state port.new) walk.new) walk.old.positions walk.new.positions) (view_tree_of (ops_of stage.old)))) }
     ensures stands { OnOk result (ViewStands (contents_at (sources_in (P.state port.new) walk.new) walk.new.positions) (ops_of stage.new)) }
     ensures tree { OnOk result (view_tree_of (ops_of stage.new) ≡ view_tree_of (ops_of stage.old)) }
     ensures follows { OnOk result (following stage.new ≡ true) }

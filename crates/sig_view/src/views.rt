@@ -2,18 +2,22 @@ ghost use Rattle.std.specs.Prelude.{◌≡◌, ◌≤◌, IfOk, OnOk};
 ghost use Rattle.sig_expr.specs.Awaited.{awaits};
 ghost use Rattle.sig_expr.specs.Leaves.{leaves};
 ghost use Rattle.sig_hist.specs.Sources.{AreDistinct};
-ghost use Rattle.sig_view.specs.Flow.{flow};
+ghost use Rattle.sig_diff.specs.Replaying.{AreLawful, StaysShort};
+ghost use Rattle.sig_ops.specs.Enumerating.{enumerate_gives, enumeration_next, values_of};
+ghost use Rattle.sig_ops.specs.Following.{after_all, all_given};
+ghost use Rattle.sig_view.specs.Flow.{flow, tags_after, with_tags};
 ghost use Rattle.sig_view.specs.Longest.{longest};
-ghost use Rattle.sig_view.specs.Nodes.{view_ops, view_tree_of, ViewStands};
+ghost use Rattle.sig_view.specs.Nodes.{op_tags, view_ops, view_tree_of, ViewStands};
 ghost use Rattle.sig_view.specs.SoundRows.{contents_at, ways};
 ghost use Rattle.sig_view.specs.Walking.{CanWalk, HasGone, HasLeaves, HasWalked, cap_at, map_entered, sources_in};
 
 use crate::nodes::ViewNode;
 use crate::rows::Body;
 use crate::walk::Walk;
-use sig_diff::{MapDiffs, NoMemory};
+use sig_diff::{Diffs, MapDiffs, NoMemory, Tagged};
 use sig_hist::{Entering, Port};
-use std::alloc::Global;
+use sig_ops::{EnumerateOp, VecOp};
+use std::alloc::{AllocError, Global};
 
 impl ViewNode {
     /// Takes the view's leaves along, from left to right, and gives what the view gives for that.
@@ -31,7 +35,8 @@ impl ViewNode {
         ensures same { P.is_same port.old port.new }
         ensures gone { HasGone (P.state port.old) (P.state port.new) walk.old walk.new }
         ensures walked { OnOk result (HasWalked (P.state port.old) (P.state port.new) walk.old walk.new (awaits (contents_at (sources_in (P.state port.new) walk.new) walk.new.positions) (view_tree_of (view_ops self.old)))) }
-        ensures flow { IfOk result (λ body. body ≡ flow (ways (sources_in (P.state port.new) walk.new) walk.old.positions walk.new.positions) (view_tree_of (view_ops self.old))) }
+        ensures flow { IfOk result (λ body. body ≡ with_tags (op_tags (view_ops self.old)) (flow (ways (sources_in (P.state port.new) walk.new) walk.old.positions walk.new.positions) (view_tree_of (view_ops self.old)))) }
+        ensures tags { OnOk result (op_tags (view_ops self.new) ≡ tags_after (op_tags (view_ops self.old)) (flow (ways (sources_in (P.state port.new) walk.new) walk.old.positions walk.new.positions) (view_tree_of (view_ops self.old)))) }
         ensures stands { OnOk result (ViewStands (contents_at (sources_in (P.state port.new) walk.new) walk.new.positions) (view_ops self.new)) }
         ensures tree { OnOk result (view_tree_of (view_ops self.new) ≡ view_tree_of (view_ops self.old)) }
     {
@@ -39,8 +44,33 @@ impl ViewNode {
             ViewNode::Signal(of) => Ok(Body::Signal(of.step(alloc, port, walk)?)),
             ViewNode::Vector(of) => Ok(Body::Vector(of.step(alloc, port, walk)?)),
             ViewNode::Map(leaf) => Ok(Body::Map(map_entered(alloc, walk.enter(port, *leaf)?))),
+            ViewNode::Enumerate(op, of) => {
+                let diffs = of.step(alloc, port, walk)?;
+                Ok(Body::Tagged(tagged(alloc, op, &diffs)?))
+            }
         }
     }
+}
+
+/// What a list with tags gives for differences of its list. Where tags could run out, that counts as want of memory.
+fn tagged(
+    alloc: Global,
+    op: &mut EnumerateOp,
+    diffs: &Diffs<i64>,
+) -> Result<Diffs<Tagged>, NoMemory>
+    requires lawful { AreLawful (values_of op.old.elements) diffs.now }
+    requires short { StaysShort 65536 (values_of op.old.elements) diffs.now }
+    ensures given { IfOk result (λ given. given ≡ all_given enumeration_next enumerate_gives op.old diffs.now) }
+    ensures state { OnOk result (op.new ≡ after_all enumeration_next op.old diffs.now) }
+{
+    let mut given = Diffs::new(alloc);
+    'diffs: for diff in diffs.as_slice() {
+        if !op.has_tags() {
+            return Err(AllocError);
+        }
+        op.step(diff, &mut given)?;
+    }
+    Ok(given)
 }
 
 /// The differences of a map among what enters.

@@ -1,7 +1,6 @@
 use Rattle.sig_view.proofs.Stepping.{are_apart, has_leaves, lost, short_now, stepped, tree_held}
-use Rattle.sig_view.specs.GoingOn.{ops_of}
 use Rattle.sig_view.specs.Nodes.{view_tree_of}
-use Rattle.sig_view.specs.Tasks.{contents_of, view_of}
+use Rattle.sig_view.specs.Tasks.{contents_of, ops_of, view_of}
 use Rattle.sig_view.proofs.task.ViewTask.step.Goals as goal
 
 pub walk_on-requires-clause-leaves : goal.walk_on-requires-clause-leaves
@@ -23,7 +22,7 @@ walk_on-requires-clause-short g c =
 pub returns-in-Ok-clause-stepped : goal.returns-in-Ok-clause-stepped
 returns-in-Ok-clause-stepped g c =
     let after = c.in-Ok.ensures in
-    stepped (g.P.Port.state c.args.port.now) (g.P.Port.state c.walk_on.new.port) c.args.self.now c.walk_on.new.walk c.walk_on.new.stage c.requires.follows c.requires.ready after.gone c.in-Ok.body after.walked after.flow after.stands after.tree after.follows
+    stepped (g.P.Port.state c.args.port.now) (g.P.Port.state c.walk_on.new.port) c.args.self.now c.walk_on.new.walk c.walk_on.new.stage c.requires.follows c.requires.ready after.gone c.in-Ok.body after.walked after.flow after.tags after.stands after.tree after.follows
 
 pub returns-in-Err-clause-lost : goal.returns-in-Err-clause-lost
 returns-in-Err-clause-lost g c =

@@ -1,0 +1,14 @@
+use Rattle.sig_expr.specs.Leaves.{number_vec}
+use Rattle.sig_expr.specs.Shapes.{vec_tree}
+use Rattle.sig_view.proofs.FirstRows.{enumerated}
+use Rattle.sig_view.proofs.Results.{if_ok_both}
+use Rattle.sig_view.specs.Fetching.{content_in}
+use Rattle.sig_view.specs.Nodes.{list_ops, view_ops}
+use Rattle.sig_view.proofs.starting.view_node.Goals as goal
+
+pub returns-in_ok-node-in-Enumerate : goal.returns-in_ok-node-in-Enumerate
+returns-in_ok-node-in-Enumerate c =
+    let started = c.in_ok-node-in-Enumerate.ensures.started in
+    rw c.in-Enumerate.is (if_ok_both c.view_enumerated.result _ _ _
+    (λ made ops body. enumerated (content_in c.args.contents.now) (number_vec (vec_tree c.in-Enumerate.of) 0) (list_ops c.in_ok-node-in-Enumerate.node) c.in_ok-node-in-Enumerate.items started (view_ops made.0) made.1 ops body)
+    c.view_enumerated.ensures.ops c.view_enumerated.ensures.body)
