@@ -1,7 +1,7 @@
 -- What a view gives is the same on ways that are alike.
 use Rattle.std.proofs.Common.{◌≡◌, List, [], ◌∷◌, refl, ap}
 use Rattle.sig_expr.specs.Leaves.{sig_leaves, vec_leaves}
-use Rattle.sig_expr.specs.Trees.{MapTree, map_source, ViewTree, signal_view, vector_view, map_view}
+use Rattle.sig_expr.specs.Trees.{MapTree, map_source, ViewTree, signal_view, vector_view, map_view, entries_view, tagged_view}
 use Rattle.sig_view.proofs.Along.{AlikeOn, AreAlike, same_list_flow, same_value_flow}
 use Rattle.sig_view.specs.Flow.{Way, flow, map_flow}
 use Rattle.sig_view.specs.declared.rows.Body.TheVariants as body
@@ -19,4 +19,5 @@ module _ {L : Type 0} (way other : L → Way) (alike : (leaf : L) → AreAlike (
   same_flow (signal_view e) = ap body.Signal (same_value_flow way other e (all_alike (sig_leaves e)))
   same_flow (vector_view e) = ap body.Vector (same_list_flow way other e (all_alike (vec_leaves e)))
   same_flow (map_view m) = ap body.Map (same_map_flow m)
-  same_flow _ = refl
+  same_flow (entries_view m) = refl
+  same_flow (tagged_view e) = ap body.Vector (same_list_flow way other e (all_alike (vec_leaves e)))

@@ -1,13 +1,14 @@
 -- Polls of a view: its rows are sound for sources that go on growing.
-use Rattle.std.proofs.Common.{◌≡◌, ◌∙◌, ℕ, ◌==◌, List, [], ◌∷◌, ◌++◌, length, map, slice_index, Bool, true, false, ◌&&◌, nat_eq, if◌then◌else◌, refl, sym, ap, subst, arith}
+use Rattle.std.proofs.Common.{◌≡◌, ◌∙◌, ℕ, ◌==◌, List, [], ◌∷◌, ◌++◌, length, map, slice_index, Bool, true, false, ◌&&◌, nat_eq, if◌then◌else◌, Option, None, Some, ◌+◌, refl, sym, ap, subst, arith}
 use Rattle.std.proofs.lemmas.Bool.{and_from, and_parts, eq-eqb, eqb-true}
 use Rattle.std.proofs.lemmas.List.{length-map}
 use Rattle.std.specs.Cmp.Lexicographic.{bytes_decides, pointwise, same_text, other_text}
 use Rattle.sig_diff.specs.declared.contents.Content.{Content}
 use Rattle.sig_expr.specs.Awaited.{awaits}
-use Rattle.sig_expr.specs.Shows.{shows}
-use Rattle.sig_expr.specs.Trees.{ViewTree, signal_view, vector_view, map_view}
+use Rattle.sig_expr.specs.Scratch.{list_of}
+use Rattle.sig_expr.specs.Trees.{ViewTree, signal_view, vector_view, map_view, entries_view, tagged_view}
 use Rattle.sig_expr.specs.declared.shown.Shown.{Shown}
+use Rattle.sig_expr.specs.declared.shown.Shown.TheVariants as shown
 use Rattle.sig_hist.specs.Histories.{is_closed}
 use Rattle.sig_hist.specs.OneThread.{no_source}
 use Rattle.sig_hist.specs.Sources.{Source, is_among, writers_of}
@@ -19,11 +20,15 @@ use Rattle.sig_report.proofs.Growing.{AllGrow, alike_ways, closed_stays, grows_l
 use Rattle.sig_report.proofs.Numbering.{LooksBelow}
 use Rattle.sig_report.proofs.RowSteps.{IsOpen, IsOpenBody, IsOver, complete_append, first_is_open, next_is_open, next_is_over, open_is_incomplete}
 use Rattle.sig_report.specs.Playing.{Watched, advanced, is_at_end, polled, polled_later, with_row}
-use Rattle.sig_view.proofs.Leading.{view_leads}
+use Rattle.sig_ops.specs.EnumerateTurns.{enumeration_stands}
+use Rattle.sig_ops.specs.Enumerating.{Enumeration, tagged_from}
+use Rattle.sig_view.proofs.Leading.{BodyLeads, view_leads}
+use Rattle.sig_view.proofs.Tags.{as_many_tags}
 use Rattle.sig_view.specs.Built.{IsBuilt}
-use Rattle.sig_view.specs.Flow.{Way, first_body, flow}
-use Rattle.sig_view.specs.SoundRows.{AreSound, AreWithin, IsNextRow, IsShownBy, IsSoundRow, are_complete, contents_at, is_awaited, leaf_source, nothing_shown, shown_after, ways, without_tags}
+use Rattle.sig_view.specs.Flow.{Way, first_body, flow, with_tags}
+use Rattle.sig_view.specs.SoundRows.{AreSound, AreWithin, IsNextRow, IsShownBy, IsSoundRow, Seen, are_complete, contents_at, has_tags, is_awaited, leaf_source, nothing_seen, seen_after, seen_of, shown_after, tags_of, ways}
 use Rattle.sig_view.specs.declared.rows.Body.{Body}
+use Rattle.sig_view.specs.declared.rows.Body.TheVariants as body
 use Rattle.sig_view.specs.declared.rows.Body.TheVariants.{Ended}
 use Rattle.sig_view.specs.declared.rows.Row.{Row}
 
@@ -33,35 +38,41 @@ first_is_open_body : (view : ViewTree ℕ) → IsBuilt view → (s : ℕ → Con
 first_is_open_body (signal_view e) is s = tt
 first_is_open_body (vector_view e) is s = tt
 first_is_open_body (map_view m) is s = tt
-first_is_open_body _ is s = absurd is
+first_is_open_body (entries_view m) is s = absurd is
+first_is_open_body (tagged_view e) is s = tt
 
-first_shows : (view : ViewTree ℕ) → IsBuilt view → (s : ℕ → Content) → shown_after (nothing_shown view) (first_body view s) ≡ shows view s
-first_shows (signal_view e) is s = refl
-first_shows (vector_view e) is s = refl
-first_shows (map_view m) is s = refl
-first_shows _ is s = absurd is
+pub first_shown : (view : ViewTree ℕ) → IsBuilt view → (s : ℕ → Content) → IsShownBy view s (seen_after (nothing_seen view) (first_body view s))
+first_shown (signal_view e) is s = record { kind = refl; shows = refl; tags = tt }
+first_shown (vector_view e) is s = record { kind = refl; shows = refl; tags = tt }
+first_shown (map_view m) is s = record { kind = refl; shows = refl; tags = tt }
+first_shown (entries_view m) is s = absurd is
+first_shown (tagged_view e) is s =
+    let stands = enumeration_stands (list_of s e) in
+    let count : 0 + (length (tagged_from 0 (list_of s e)) + 0) ≡ length (list_of s e) = omega (arith, as_many_tags 0 (list_of s e)) in
+    record { kind = refl; shows = ap shown.Vector stands.values; tags = rw count (record { values = refl; distinct = stands.distinct; given_out = stands.given_out }) }
 
-shown_by_itself : (view : ViewTree ℕ) → IsBuilt view → (s : ℕ → Content) → IsShownBy view s (shows view s)
-shown_by_itself (signal_view e) is s = record { kind = refl; shows = refl }
-shown_by_itself (vector_view e) is s = record { kind = refl; shows = refl }
-shown_by_itself (map_view m) is s = record { kind = refl; shows = refl }
-shown_by_itself _ is s = absurd is
+pub kind_stays : (seen : Shown) (given : Body) → has_tags (shown_after seen given) ≡ has_tags seen
+kind_stays (shown.Signal old) (body.Signal value) = refl
+kind_stays (shown.Vector items) (body.Vector diffs) = refl
+kind_stays (shown.Map entries) (body.Map diffs) = refl
+kind_stays (shown.Pairs pairs) (body.Pairs diffs) = refl
+kind_stays (shown.Tagged elements) (body.Tagged diffs) = refl
+kind_stays seen given = refl
 
--- a body's content isn't tagged
-untagged : (view : ViewTree ℕ) → IsBuilt view → (way : ℕ → Way) (s : ℕ → Content) → without_tags (shown_after (shows view s) (flow way view)) ≡ shown_after (shows view s) (flow way view)
-untagged (signal_view e) is way s = refl
-untagged (vector_view e) is way s = refl
-untagged (map_view m) is way s = refl
-untagged _ is way s = absurd is
-
-flow_is_open : (view : ViewTree ℕ) → IsBuilt view → (way : ℕ → Way) → IsOpenBody (flow way view)
-flow_is_open (signal_view e) is way = tt
-flow_is_open (vector_view e) is way = tt
-flow_is_open (map_view m) is way = tt
-flow_is_open _ is way = absurd is
+flow_is_open : (view : ViewTree ℕ) (tags : Option Enumeration) (way : ℕ → Way) → IsOpenBody (with_tags tags (flow way view))
+flow_is_open (signal_view e) None way = tt
+flow_is_open (signal_view e) (Some op) way = tt
+flow_is_open (vector_view e) None way = tt
+flow_is_open (vector_view e) (Some op) way = tt
+flow_is_open (map_view m) None way = tt
+flow_is_open (map_view m) (Some op) way = tt
+flow_is_open (entries_view m) None way = tt
+flow_is_open (entries_view m) (Some op) way = tt
+flow_is_open (tagged_view e) None way = tt
+flow_is_open (tagged_view e) (Some op) way = tt
 
 -- a row that isn't an ended one is sound where it is a sound next one
-next_is_sound : (view : ViewTree ℕ) (sources : List Source) (from : List ℕ) (seen : Shown) (at : List ℕ) (given : Body) (later : List Row) → IsOpenBody given →
+next_is_sound : (view : ViewTree ℕ) (sources : List Source) (from : List ℕ) (seen : Seen) (at : List ℕ) (given : Body) (later : List Row) → IsOpenBody given →
     IsNextRow view sources from seen at given → IsSoundRow view sources from seen at given later
 next_is_sound view sources from seen at Ended later open_ is = absurd open_
 next_is_sound view sources from seen at given later open_ is = is
@@ -87,9 +98,11 @@ module _ (view : ViewTree ℕ) where
 
   -- ---- the rows at a moment
 
-  -- rows that are open at positions of the last sources
-  abbrev pub OpenAt : List Source → List ℕ → List Row → Type 0
-  OpenAt final at rows = IsOpen view final at (shows view (contents_at final at)) rows
+  -- rows that are open at positions of the last sources, and what was seen of them
+  pub record OpenAt (final : List Source) (at : List ℕ) (rows : List Row) : Type 0 where
+    pub seen : Seen
+    pub is_open : IsOpen view final at seen rows
+    pub shown : IsShownBy view (contents_at final at) seen
 
   -- the rows of a view at a moment, sound for the last sources
   pub data Sees (sources final : List Source) : List ℕ → List Row → Type 0 where
@@ -116,7 +129,7 @@ module _ (view : ViewTree ℕ) where
 
   pub sound_at_end : (sources final : List Source) (at : List ℕ) (rows : List Row) → Sees sources final at rows → are_complete rows ≡ true → AreSound view final rows
   sound_at_end sources final at rows (unseen at') complete = cc
-  sound_at_end sources final at rows (seen at' first rows' inside is) complete = let incomplete = open_is_incomplete (first ∷ rows') is.are_open in cc
+  sound_at_end sources final at rows (seen at' first rows' inside is) complete = let incomplete = open_is_incomplete (first ∷ rows') is.is_open.are_open in cc
   sound_at_end sources final at rows (over at' first rows' is) complete = is.sound
 
   -- ---- one poll
@@ -137,9 +150,9 @@ module _ (view : ViewTree ℕ) where
         let at_ends : (leaf : ℕ) → slice_index ends leaf ≡ length (leaf_source sources leaf).history = λ leaf. map_at (λ (source : Source). length source.history) sources leaf no_source in
         let inside : AreInside sources ends = record { count = length-map sources _; each = λ leaf. omega (arith, at_ends leaf) } in
         let row : Row = record { at = ends; body = first_body view (contents_at final ends) } in
-        let open_ : IsOpen view final ends (shown_after (nothing_shown view) row.body) (row ∷ []) = first_is_open view final row (first_is_open_body view built _) (record { within = still_within ends inside; whole = refl }) in
+        let open_ : IsOpen view final ends (seen_after (nothing_seen view) row.body) (row ∷ []) = first_is_open view final row (first_is_open_body view built _) (record { within = still_within ends inside; whole = refl }) in
         subst (λ (s : ℕ → Content). IsPolledNow (record { at = ends; rows = record { at = ends; body = first_body view s } ∷ [] })) (sym (same_contents ends inside))
-        (caught_up ends row [] inside (stays_at_ends view sources ends at_ends) (subst (λ (seen : Shown). IsOpen view final ends seen (row ∷ [])) (first_shows view built _) open_))
+        (caught_up ends row [] inside (stays_at_ends view sources ends at_ends) (record { seen = seen_after (nothing_seen view) row.body; is_open = open_; shown = first_shown view built _ }))
 
     module _ (from at : List ℕ) (inside : AreInside sources from) (has : HasAdvanced view sources from at) where
       abbrev here : AreInside sources at
@@ -148,27 +161,36 @@ module _ (view : ViewTree ℕ) where
       awaited_now : (leaf : ℕ) → is_awaited view sources at leaf ≡ is_awaited view final at leaf
       awaited_now leaf = ap (λ (s : ℕ → Content). is_among leaf (awaits s view)) (same_contents at here)
 
-      next_row : pointwise nat_eq from at ≡ false → IsNextRow view final from (shows view (contents_at final from)) at (flow (ways final from at) view)
-      next_row moves =
-          let leads = view_leads (ways final from at) (none_falls view sources from at inside has) view _ built (shown_by_itself view built (contents_at final from)) in
-          record {
-            within = still_within at here;
-            goes_on = all_go_on view sources from at inside has;
-            moves = λ back. other_text from at (sym moves) (sym back);
-            awaited = λ leaf unawaited. others_stay view sources from at inside has leaf (awaited_now leaf ∙ unawaited);
-            flow = refl;
-            lawful = leads.lawful;
-            replay = leads.replay;
-          }
+      module _ (seen : Seen) (shows_it : IsShownBy view (contents_at final from) seen) where
+        abbrev given : Body
+        given = with_tags (tags_of seen) (flow (ways final from at) view)
+
+        leads : BodyLeads (ways final from at) (none_falls view sources from at inside has) view seen.shown seen.next
+        leads = view_leads (ways final from at) (none_falls view sources from at inside has) view seen.shown seen.next built (record { kind = shows_it.kind; shows = shows_it.shows; tags = shows_it.tags })
+
+        next_row : pointwise nat_eq from at ≡ false → IsNextRow view final from seen at given
+        next_row moves = record {
+          within = still_within at here;
+          goes_on = all_go_on view sources from at inside has;
+          moves = λ back. other_text from at (sym moves) (sym back);
+          awaited = λ leaf unawaited. others_stay view sources from at inside has leaf (awaited_now leaf ∙ unawaited);
+          flow = refl;
+          lawful = leads.lawful;
+          replay = leads.replay;
+          tags = rw leads.follow leads.differ;
+        }
+
+        shows_next : IsShownBy view (contents_at final at) (seen_after seen given)
+        shows_next = record { kind = kind_stays seen.shown given ∙ shows_it.kind; shows = leads.replay; tags = rw leads.follow leads.differ }
 
       -- by whether all leaves have stayed, and whether the view is at its end
       later_polled : (first : Row) (rows : List Row) (stays ends : Bool) → OpenAt final from (first ∷ rows) → pointwise nat_eq from at ≡ stays → is_at_end view sources at ≡ ends →
           let watched : Watched = record { at = from; rows = first ∷ rows } in
-          IsPolledNow (if stays then (if ends then with_row at Ended watched else watched) else with_row at (flow (ways sources from at) view) watched)
+          IsPolledNow (if stays then (if ends then with_row at Ended watched else watched) else with_row at (with_tags (tags_of (seen_of (nothing_seen view) (first ∷ rows))) (flow (ways sources from at) view)) watched)
       later_polled first rows true true is stays ends =
           let done : (leaf : ℕ) → is_awaited view final at leaf ≡ true → (slice_index at leaf ≡ length (leaf_source sources leaf).history) × (is_closed (writers_of (leaf_source sources leaf).plan.allow) (leaf_source sources leaf).history ≡ true) =
           λ leaf awaited. let parts = and_parts _ _ (each_is_done sources at leaf ends (awaited_now leaf ∙ awaited)) in (eqb-true _ _ parts.0, parts.1) in
-          ended at first _ (next_is_over view final from _ first rows (record { at = at; body = Ended }) is refl (record {
+          ended at first _ (next_is_over view final from is.seen first rows (record { at = at; body = Ended }) is.is_open refl (record {
             stays = sym (same_text from at (sym stays));
             end = λ leaf awaited. (done leaf awaited).0 ∙ ap length (sym (closed_stays _ _ (grow.each leaf) (done leaf awaited).1));
             closed = λ leaf awaited. rw ((grow.each leaf).plan, closed_stays _ _ (grow.each leaf) (done leaf awaited).1) (done leaf awaited).1;
@@ -178,19 +200,17 @@ module _ (view : ViewTree ℕ) where
           caught_up from first rows inside (subst (λ (positions : List ℕ). HasAdvanced view sources from positions) (sym (same_text from at (sym stays))) has) is
       later_polled first rows false ends is stays at_end =
           let way : ℕ → Way = ways final from at in
-          let row : Row = record { at = at; body = flow way view } in
-          let next = next_row stays in
+          let row : Row = record { at = at; body = given is.seen is.shown } in
           let same : flow (ways sources from at) view ≡ flow way view = same_flow _ _ (λ leaf. alike_ways _ _ _ _ (grow.each leaf) (none_falls view sources from at inside has leaf) (here.each leaf)) view in
-          let open_body : IsOpenBody (flow way view) = flow_is_open view built way in
-          let open_ : IsOpen view final at (shown_after (shows view (contents_at final from)) (flow way view)) (first ∷ rows ++ row ∷ []) =
-          next_is_open view final from _ first rows row is open_body (next_is_sound view final from _ at (flow way view) [] open_body next) in
-          let shows_end : shown_after (shows view (contents_at final from)) (flow way view) ≡ shows view (contents_at final at) = sym (untagged view built way _) ∙ next.replay in
-          rw same (caught_up at first (rows ++ row ∷ []) here (stays_there view sources from at inside has) (rw shows_end at open_))
+          let open_body : IsOpenBody row.body = flow_is_open view (tags_of is.seen) way in
+          let open_ : IsOpen view final at (seen_after is.seen row.body) (first ∷ rows ++ row ∷ []) =
+          next_is_open view final from is.seen first rows row is.is_open open_body (next_is_sound view final from is.seen at row.body [] open_body (next_row is.seen is.shown stays)) in
+          rw (is.is_open.shows, same) (caught_up at first (rows ++ row ∷ []) here (stays_there view sources from at inside has) (record { seen = seen_after is.seen row.body; is_open = open_; shown = shows_next is.seen is.shown }))
 
     pub poll : (at : List ℕ) (rows : List Row) → Sees sources final at rows → IsPolledNow (polled view sources (record { at = at; rows = rows }))
     poll at rows (unseen at') = first_polled at'
     poll at rows (seen at' first rows' inside is) =
-        subst IsPolledNow (sym (polled_is sources at' first rows' (open_is_incomplete (first ∷ rows') is.are_open)))
+        subst IsPolledNow (sym (polled_is sources at' first rows' (open_is_incomplete (first ∷ rows') is.is_open.are_open)))
         (later_polled at' (advanced view sources [] at') inside (advanced_has view looks sources at') first rows' _ _ is refl refl)
     poll at rows (over at' first rows' is) = rw is.complete (ended at' first rows' is)
 
@@ -207,6 +227,6 @@ module _ (view : ViewTree ℕ) where
         let watched : Watched = record { at = at'; rows = first ∷ rows' } in
         let at_end : is_at_end view sources at' ≡ true = all_are_done sources at' (λ leaf awaited. and_from _ _ (eq-eqb _ _ (awaited_at_end view sources at' at' inside has leaf awaited)) (closed leaf)) in
         ap (λ (watched : Watched). are_complete watched.rows)
-        (polled_is sources at' first rows' (open_is_incomplete (first ∷ rows') is.are_open) ∙ ap (λ (next : List ℕ). polled_later view sources next watched) (sym (advanced_only view looks sources at' at' has)))
+        (polled_is sources at' first rows' (open_is_incomplete (first ∷ rows') is.is_open.are_open) ∙ ap (λ (next : List ℕ). polled_later view sources next watched) (sym (advanced_only view looks sources at' at' has)))
         ∙ last_ends at' first rows' _ _ _ ((bytes_decides at' at').1 refl) at_end
     last_poll at rows closed (ended at' first rows' is) = rw is.complete is.complete

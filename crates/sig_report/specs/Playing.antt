@@ -26,8 +26,8 @@ use Rattle.sig_script.specs.declared.types.ShareDef.{ShareDef}
 use Rattle.sig_script.specs.declared.types.SourceDef.{SourceDef}
 use Rattle.sig_script.specs.declared.types.ViewDef.{ViewDef}
 use Rattle.sig_script.specs.declared.types.WriterDef.{WriterDef}
-use Rattle.sig_view.specs.Flow.{first_body, flow}
-use Rattle.sig_view.specs.SoundRows.{are_complete, contents_at, is_awaited, leaf_source, nothing_shown, replay_of, ways}
+use Rattle.sig_view.specs.Flow.{first_body, flow, with_tags}
+use Rattle.sig_view.specs.SoundRows.{are_complete, contents_at, is_awaited, leaf_source, nothing_seen, nothing_shown, replay_of, seen_of, tags_of, ways}
 use Rattle.sig_view.specs.declared.rows.Body.{Body}
 use Rattle.sig_view.specs.declared.rows.Body.TheVariants as body
 use Rattle.sig_view.specs.declared.rows.Body.TheVariants.{Ended}
@@ -109,7 +109,7 @@ abbrev pub polled_later : ViewTree ℕ → List Source → List ℕ → Watched 
 polled_later view sources at watched =
     if pointwise nat_eq watched.at at
     then (if is_at_end view sources at then with_row at Ended watched else watched)
-    else with_row at (flow (ways sources watched.at at) view) watched
+    else with_row at (with_tags (tags_of (seen_of (nothing_seen view) watched.rows)) (flow (ways sources watched.at at) view)) watched
 
 abbrev pub polled_after : ViewTree ℕ → List Source → List Row → Watched → Watched
 polled_after view sources [] watched =
