@@ -30,7 +30,7 @@ pub replay_of_append : (shown : Shown) (rows : List Row) (row : Row) → replay_
 replay_of_append shown [] row = refl
 replay_of_append shown (first ∷ rows) row = replay_of_append (shown_after shown first.body) rows row
 
-seen_of_append : (seen : Seen) (rows : List Row) (row : Row) → seen_of seen (rows ++ row ∷ []) ≡ seen_after (seen_of seen rows) row.body
+pub seen_of_append : (seen : Seen) (rows : List Row) (row : Row) → seen_of seen (rows ++ row ∷ []) ≡ seen_after (seen_of seen rows) row.body
 seen_of_append seen [] row = refl
 seen_of_append seen (first ∷ rows) row = seen_of_append (seen_after seen first.body) rows row
 

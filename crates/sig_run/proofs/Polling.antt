@@ -1,5 +1,5 @@
 -- What a poll does to a view that follows its sources on the port of one thread.
-use Rattle.std.proofs.Common.{◌≡◌, ◌≢◌, ◌∙◌, ℕ, zero, suc, ◌+◌, ◌<◌, ◌≤◌, ◌==◌, List, [], ◌∷◌, ◌++◌, length, map, get_or, slice_index, nat_eq, Bool, true, false, ◌||◌, if◌then◌else◌, Option, refl, sym, ap, ap₂, arith, rules}
+use Rattle.std.proofs.Common.{◌≡◌, ◌≢◌, ◌∙◌, ℕ, zero, suc, ◌+◌, ◌<◌, ◌≤◌, ◌==◌, List, [], ◌∷◌, ◌++◌, length, map, get_or, slice_index, nat_eq, Bool, true, false, ◌||◌, if◌then◌else◌, Option, refl, sym, ap, ap₂, subst, arith, rules}
 use Rattle.std.proofs.lemmas.Bool.{and_from, and_parts, eq-eqb}
 use Rattle.std.proofs.lemmas.List.{ext_get_or, length-map, length_push}
 use Rattle.std.specs.Cmp.Lexicographic.{bytes_decides, pointwise, same_text}
@@ -18,24 +18,25 @@ use Rattle.sig_hist.specs.Sources.{Source, is_among, writers_of}
 use Rattle.sig_report.proofs.Advancing.{advanced_only}
 use Rattle.sig_report.proofs.Events.{map_at}
 use Rattle.sig_report.proofs.Numbering.{numbered_looks}
-use Rattle.sig_report.proofs.Polls.{all_are_done, each_is_done, polled_is}
-use Rattle.sig_report.proofs.RowSteps.{complete_append, replay_of_append}
+use Rattle.sig_report.proofs.Polls.{all_are_done, each_is_done, first_shown, kind_stays, polled_is}
+use Rattle.sig_report.proofs.RowSteps.{complete_append, replay_of_append, seen_of_append, seen_shows}
 use Rattle.sig_report.specs.Playing.{Watched, advanced, is_at_end, polled, polled_later, with_row}
-use Rattle.sig_run.specs.Watching.{IsFollowing, IsShowable, IsShowing, sources_under, tree_of, watched_of}
+use Rattle.sig_run.specs.Watching.{IsFollowing, IsShowable, IsShowing, seen_by, sources_under, tree_of, watched_of}
 use Rattle.sig_run.specs.declared.watching.WatchedView.{WatchedView}
 use Rattle.sig_view.proofs.Numbering.{leaf_within, numbered_built}
 use Rattle.sig_view.proofs.Staying.{source_of_leaf}
 use Rattle.sig_view.specs.Built.{IsBuilt}
-use Rattle.sig_view.specs.Flow.{first_body, flow}
+use Rattle.sig_view.specs.Flow.{first_body, flow, with_tags}
 use Rattle.sig_view.specs.Polling.{HasStayed, IsEnd, IsPoll, IsRow, IsSameTask}
-use Rattle.sig_view.specs.SoundRows.{AreWithin, IsLawfulBody, IsShownBy, are_complete, contents_at, has_tags, is_awaited, is_end, leaf_source, nothing_shown, replay_of, shown_after, ways}
-use Rattle.sig_view.specs.Tasks.{IsReady, contents_of, expression_of, first_of, has_row, is_ended, is_failed, positions_of, sources_of, view_of}
+use Rattle.sig_view.specs.SoundRows.{AreWithin, IsLawfulBody, IsShownBy, Seen, are_complete, contents_at, is_awaited, is_end, leaf_source, nothing_seen, nothing_shown, replay_of, seen_after, seen_of, shown_after, tags_of, ways}
+use Rattle.sig_view.specs.Tasks.{IsReady, contents_of, ended, expression_of, failed, first_of, following, has_row, is_ended, is_failed, is_following, positions_of, rows_given, sources_of, tags_at, view_of}
 use Rattle.sig_view.specs.Walking.{IsFresh, is_seen_closed, seen_source, seen_sources}
 use Rattle.sig_view.specs.declared.rows.Body.{Body}
-use Rattle.sig_view.specs.declared.rows.Body.TheVariants as body
 use Rattle.sig_view.specs.declared.rows.Body.TheVariants.{Ended}
 use Rattle.sig_view.specs.declared.rows.Row.{Row}
 use Rattle.sig_view.specs.declared.task.Polled.TheVariants as answer
+use Rattle.sig_view.specs.declared.task.Stage.{Stage}
+use Rattle.sig_view.specs.declared.task.Stage.TheVariants.{Following}
 use Rattle.sig_view.specs.declared.task.ViewTask.{ViewTask}
 
 -- ---- what is shown
@@ -45,19 +46,15 @@ first_is_lawful : (view : ViewTree ℕ) → IsBuilt view → (s : ℕ → Conten
 first_is_lawful (signal_view e) is s = tt
 first_is_lawful (vector_view e) is s = (refl, tt)
 first_is_lawful (map_view m) is s = search rules
-first_is_lawful _ is s = absurd is
-
-first_shown : (view : ViewTree ℕ) → IsBuilt view → (s : ℕ → Content) → IsShownBy view s (shown_after (nothing_shown view) (first_body view s))
-first_shown (signal_view e) is s = record { kind = refl; shows = refl }
-first_shown (vector_view e) is s = record { kind = refl; shows = refl }
-first_shown (map_view m) is s = record { kind = refl; shows = refl }
-first_shown _ is s = absurd is
+first_is_lawful (entries_view m) is s = absurd is
+first_is_lawful (tagged_view e) is s = (refl, tt)
 
 first_goes_on : (view : ViewTree ℕ) → IsBuilt view → (s : ℕ → Content) → is_end (first_body view s) ≡ false
 first_goes_on (signal_view e) is s = refl
 first_goes_on (vector_view e) is s = refl
 first_goes_on (map_view m) is s = refl
-first_goes_on _ is s = absurd is
+first_goes_on (entries_view m) is s = absurd is
+first_goes_on (tagged_view e) is s = refl
 
 lawful_is_showable : (seen : Shown) (given : Body) → IsLawfulBody seen given → IsShowable seen given
 lawful_is_showable seen Ended is = tt
@@ -74,20 +71,23 @@ lawful_goes_on : (seen : Shown) (given : Body) → IsLawfulBody seen given → i
 lawful_goes_on seen Ended is = absurd (no_lawful_end seen is)
 lawful_goes_on seen given is = refl
 
-tags_stay : (seen : Shown) (given : Body) → has_tags (shown_after seen given) ≡ has_tags seen
-tags_stay (shown.Signal old) (body.Signal value) = refl
-tags_stay (shown.Vector items) (body.Vector diffs) = refl
-tags_stay (shown.Map entries) (body.Map diffs) = refl
-tags_stay (shown.Pairs pairs) (body.Pairs diffs) = refl
-tags_stay (shown.Tagged elements) (body.Tagged diffs) = refl
-tags_stay seen given = refl
-
 after_end : (seen : Shown) → shown_after seen Ended ≡ seen
 after_end (shown.Signal old) = refl
 after_end (shown.Vector items) = refl
 after_end (shown.Map entries) = refl
 after_end (shown.Pairs pairs) = refl
 after_end (shown.Tagged elements) = refl
+
+seen_end : (seen : Seen) → seen_after seen Ended ≡ seen
+seen_end seen = ap₂ (λ (shown : Shown) (next : ℕ). record { shown = shown; next = next }) (after_end seen.shown) (omega arith)
+
+-- a task that has a row, hasn't failed and hasn't ended follows
+still_follows : (task : ViewTask) → has_row task ≡ true → is_failed task ≡ false → is_ended task ≡ false → is_following task ≡ true
+still_follows task given works goes_on = by task.stage given works goes_on
+  where
+    by : (stage : Stage) → rows_given stage ≡ true → failed stage ≡ false → ended stage ≡ false → following stage ≡ true
+    by (Following node) given works goes_on = refl
+    by stage given works goes_on = cc
 
 -- ---- lists of leaves
 
@@ -132,13 +132,13 @@ module _ (view : ViewTree ℕ) (sources : List Source) (from at : List ℕ) (goe
   -- by whether all leaves stay, and whether the view is at its end
   later_poll : (rows : List Row) (stays ends : Bool) → 0 < length rows → are_complete rows ≡ false → pointwise nat_eq from at ≡ stays → is_at_end view sources at ≡ ends →
       let watched : Watched = record { at = from; rows = rows } in
-      polled view sources watched ≡ (if stays then (if ends then with_row at Ended watched else watched) else with_row at (flow (ways sources from at) view) watched)
+      polled view sources watched ≡ (if stays then (if ends then with_row at Ended watched else watched) else with_row at (with_tags (tags_of (seen_of (nothing_seen view) rows)) (flow (ways sources from at) view)) watched)
   later_poll [] stays ends some incomplete still at_end = absurd (omega (arith, some))
   later_poll (first ∷ rows) stays ends some incomplete still at_end =
       let watched : Watched = record { at = from; rows = first ∷ rows } in
       polled_is view sources from first rows incomplete
       ∙ ap (λ (next : List ℕ). polled_later view sources next watched) (sym goes)
-      ∙ ap₂ (λ (stays ends : Bool). if stays then (if ends then with_row at Ended watched else watched) else with_row at (flow (ways sources from at) view) watched) still at_end
+      ∙ ap₂ (λ (stays ends : Bool). if stays then (if ends then with_row at Ended watched else watched) else with_row at (with_tags (tags_of (seen_of (nothing_seen view) (first ∷ rows))) (flow (ways sources from at) view)) watched) still at_end
 
   moved_by : (stays : Bool) → pointwise nat_eq from at ≡ stays → at ≢ from → pointwise nat_eq from at ≡ false
   moved_by true still moves = absurd (moves (sym (same_text from at (sym still))))
@@ -243,9 +243,12 @@ module _ (port next : OneThread) (view : WatchedView) (new : ViewTask) (is : IsF
     abbrev later : WatchedView
     later = record { task = new; rows = rows; shown = seen }
 
+    same_seen : seen_of (nothing_seen tree) rows ≡ seen_by later
+    same_seen = ap (λ (shown : View). seen_of (nothing_seen (view_tree shown)) rows) (sym same_task.view)
+
     polled_by : (watched : Watched) → record { at = at; rows = rows } ≡ watched → watched ≡ polled (numbered tree) sources (watched_of view) → are_complete rows ≡ is_ended new → 0 < length rows →
-        IsShownBy (view_of new) (contents_of (known next) new) seen → seen ≡ replay_of (nothing_shown tree) rows → IsPolled port next view later
-    polled_by watched at_last polled_is over some shown_is replay = record {
+        IsShownBy (view_of new) (contents_of (known next) new) (seen_of (nothing_seen tree) rows) → (is_ended new ≡ false → tags_of (seen_of (nothing_seen tree) rows) ≡ tags_at new) → seen ≡ replay_of (nothing_shown tree) rows → IsPolled port next view later
+    polled_by watched at_last polled_is over some shown_is tags replay = record {
       polled = (λ i. record { at = if given i then at else []; rows = rows }) ∙ at_last ∙ polled_is ∙ ap (λ (sources : List Source). polled (numbered tree) sources (watched_of view)) new_sources;
       expression = same_task.view;
       following = record {
@@ -253,7 +256,7 @@ module _ (port next : OneThread) (view : WatchedView) (new : ViewTask) (is : IsF
         on_source = λ leaf within. still_on leaf within ∙ ap (λ (shown : View). slice_index (leaves (view_tree shown)) leaf) (sym same_task.view);
         works = works;
         over = over;
-        showing = rw given (some, shown_is);
+        showing = rw given (some, subst (λ (seen : Seen). IsShownBy (view_of new) (contents_of (known next) new) seen) same_seen shown_is, λ open_now. ap tags_of (sym same_seen) ∙ tags open_now);
         shows = record { replay = replay ∙ ap (λ (shown : View). replay_of (nothing_shown (view_tree shown)) rows) (sym same_task.view) };
       };
     }
@@ -266,12 +269,16 @@ module _ (port next : OneThread) (view : WatchedView) (new : ViewTask) (is : IsF
       can : IsShowable view.shown row.body
       goes_on : is_end row.body ≡ false
       polled_is : with_row at row.body (record { at = if given then from else []; rows = view.rows }) ≡ polled (numbered tree) sources (record { at = if given then from else []; rows = view.rows })
-      shown_is : IsShownBy (view_of new) (contents_of (known next) new) (shown_after view.shown row.body)
+      shown_is : IsShownBy (view_of new) (contents_of (known next) new) (seen_after (seen_by view) row.body)
+      tags : tags_of (seen_after (seen_by view) row.body) ≡ tags_at new
 
     -- before the first row each leaf was to be fetched
     module _ (showing : IsShowing false (known port) view) (is_row : IsRow (known port) (known next) view.task new false row) where
-      first_nothing : view.shown ≡ nothing_shown (numbered tree)
-      first_nothing = is.shows.replay ∙ ap (replay_of (nothing_shown tree)) showing.0 ∙ sym (nothing_numbered tree)
+      first_nothing : seen_by view ≡ nothing_seen (numbered tree)
+      first_nothing = ap (seen_of (nothing_seen tree)) showing.0 ∙ ap (λ (shown : Shown). record { shown = shown; next = 0 }) (sym (nothing_numbered tree))
+
+      shown_nothing : view.shown ≡ nothing_shown (numbered tree)
+      shown_nothing = is.shows.replay ∙ ap (replay_of (nothing_shown tree)) showing.0 ∙ sym (nothing_numbered tree)
 
       at_ends : at ≡ map (λ (source : Source). length source.history) sources
       at_ends =
@@ -285,33 +292,40 @@ module _ (port next : OneThread) (view : WatchedView) (new : ViewTask) (is : IsF
         let built : IsBuilt (numbered tree) = numbered_built tree is.ready.is_task.built in
         let whole : row.body ≡ first_body (numbered tree) (contents_at sources at) = is_row.0.whole ∙ ap (λ (at : List ℕ). first_body (numbered tree) (contents_at sources at)) at_is in
         record {
-          can = rw (first_nothing showing is_row, whole) (first_is_lawful (numbered tree) built _);
+          can = rw (shown_nothing showing is_row, whole) (first_is_lawful (numbered tree) built _);
           goes_on = rw whole (first_goes_on (numbered tree) built _);
           polled_is = first_poll (numbered tree) sources at view.rows row.body showing.0 (at_ends showing is_row) whole;
           shown_is = rw (same_tree, first_nothing showing is_row, whole) (first_shown (numbered tree) built _);
+          tags = rw (first_nothing showing is_row) is_row.2;
         }
     row_polled true showing is_row =
-        let next_row = is_row.sound view.shown showing.1 in
+        let next_row = is_row.sound (seen_by view) showing.1 (showing.2 open_) in
+        let shows_rows : view.shown ≡ (seen_by view).shown = is.shows.replay ∙ sym (seen_shows (nothing_seen tree) view.rows) in
         let gone : at ≡ advanced (numbered tree) sources [] from = goes is_row.fresh (λ leaf unawaited.
         ap (λ (at : List ℕ). slice_index at leaf) (sym at_is) ∙ next_row.awaited leaf (ap (λ (at : List ℕ). is_awaited (numbered tree) sources at leaf) at_is ∙ unawaited)) in
         let moves : pointwise nat_eq from at ≡ false = moved_by (numbered tree) sources from at gone _ refl (λ stays. next_row.moves (at_is ∙ stays)) in
-        let body : row.body ≡ flow (ways sources from at) (numbered tree) = next_row.flow ∙ ap (λ (at : List ℕ). flow (ways sources from at) (numbered tree)) at_is in
+        let start : nothing_seen (numbered tree) ≡ nothing_seen tree = ap (λ (shown : Shown). record { shown = shown; next = 0 }) (nothing_numbered tree) in
+        let body : row.body ≡ with_tags (tags_of (seen_of (nothing_seen (numbered tree)) view.rows)) (flow (ways sources from at) (numbered tree)) =
+        next_row.flow ∙ ap₂ (λ (at : List ℕ) (start : Seen). with_tags (tags_of (seen_of start view.rows)) (flow (ways sources from at) (numbered tree))) at_is (sym start) in
         record {
-          can = lawful_is_showable view.shown row.body next_row.lawful;
-          goes_on = lawful_goes_on view.shown row.body next_row.lawful;
+          can = rw shows_rows (lawful_is_showable (seen_by view).shown row.body next_row.lawful);
+          goes_on = lawful_goes_on (seen_by view).shown row.body next_row.lawful;
           polled_is = ap (λ (given : Body). with_row at given (record { at = from; rows = view.rows })) body
               ∙ sym (later_poll (numbered tree) sources from at gone view.rows false _ showing.0 incomplete moves refl);
           shown_is = record {
-            kind = rw same_tree (tags_stay view.shown row.body ∙ showing.1.kind);
+            kind = rw same_tree (kind_stays (seen_by view).shown row.body ∙ showing.1.kind);
             shows = rw same_tree (next_row.replay ∙ ap (λ (at : List ℕ). shows (numbered tree) (contents_at sources at)) at_is);
+            tags = next_row.tags;
           };
+          tags = is_row.tags (seen_by view) showing.1 (showing.2 open_);
         }
 
     row_gives : (given : has_row new ≡ true) (works : is_failed new ≡ false) → is_ended new ≡ false → IsRowPolled (has_row view.task) → IsPolled port next view (record { task = new; rows = view.rows ++ row ∷ []; shown = shown_after view.shown row.body })
     row_gives given works goes_on by_row =
         polled_by (view.rows ++ row ∷ []) (shown_after view.shown row.body) given works (with_row at row.body (watched_of view))
         (λ i. record { at = at; rows = view.rows ++ record { at = at_is i; body = row.body } ∷ [] }) by_row.polled_is
-        (complete_append view.rows row ∙ by_row.goes_on ∙ sym goes_on) (omega (arith, length_push view.rows row)) by_row.shown_is
+        (complete_append view.rows row ∙ by_row.goes_on ∙ sym goes_on) (omega (arith, length_push view.rows row)) (rw (seen_of_append (nothing_seen tree) view.rows row) by_row.shown_is)
+        (λ open_. rw (seen_of_append (nothing_seen tree) view.rows row) by_row.tags)
         (sym (replay_of_append (nothing_shown tree) view.rows row ∙ ap (λ (seen : Shown). shown_after seen row.body) (sym is.shows.replay)))
 
   -- ---- no row
@@ -324,7 +338,7 @@ module _ (port next : OneThread) (view : WatchedView) (new : ViewTask) (is : IsF
     same_contents : contents_of (known next) new ≡ contents_of (known port) view.task
     same_contents = ap₂ contents_at (new_sources ∙ sym old_sources) stayed.stays
 
-    shown_still : IsShownBy (view_of new) (contents_of (known next) new) view.shown
+    shown_still : IsShownBy (view_of new) (contents_of (known next) new) (seen_by view)
     shown_still = rw (same_tree, same_contents) shows_still.1
 
     abbrev still : Watched
@@ -348,7 +362,7 @@ module _ (port next : OneThread) (view : WatchedView) (new : ViewTask) (is : IsF
 
     rests : has_row new ≡ true → is_failed new ≡ false → is_ended new ≡ false → is_at_end (numbered tree) sources at ≡ false → IsPolled port next view (record { task = new; rows = view.rows; shown = view.shown })
     rests given works goes_on opens =
-        polled_by view.rows view.shown given works still (λ i. record { at = stayed.stays i; rows = view.rows }) (sym (rests_by false opens)) (incomplete ∙ sym goes_on) shows_still.0 shown_still is.shows.replay
+        polled_by view.rows view.shown given works still (λ i. record { at = stayed.stays i; rows = view.rows }) (sym (rests_by false opens)) (incomplete ∙ sym goes_on) shows_still.0 shown_still (λ open_now. shows_still.2 open_ ∙ sym (stayed.tags (still_follows new given works goes_on))) is.shows.replay
 
     all_ended : IsEnd (known port) (known next) view.task new → is_at_end (numbered tree) sources at ≡ true
     all_ended end =
@@ -362,7 +376,7 @@ module _ (port next : OneThread) (view : WatchedView) (new : ViewTask) (is : IsF
 
     ends : has_row new ≡ true → is_failed new ≡ false → is_ended new ≡ true → is_at_end (numbered tree) sources at ≡ true → IsPolled port next view (record { task = new; rows = view.rows ++ last ∷ []; shown = view.shown })
     ends given works over at_last =
-        polled_by (view.rows ++ last ∷ []) view.shown given works (with_row at Ended still) refl (sym (rests_by true at_last)) (complete_append view.rows last ∙ sym over) (omega (arith, length_push view.rows last)) shown_still
+        polled_by (view.rows ++ last ∷ []) view.shown given works (with_row at Ended still) refl (sym (rests_by true at_last)) (complete_append view.rows last ∙ sym over) (omega (arith, length_push view.rows last)) (rw (seen_of_append (nothing_seen tree) view.rows last, seen_end (seen_by view)) shown_still) (λ open_. cc)
         (sym (replay_of_append (nothing_shown tree) view.rows last ∙ after_end _ ∙ sym is.shows.replay))
 
 -- ---- the answers

@@ -22,7 +22,7 @@ module _ (port later : OneThread) (more : HasSeenMore (known port) (known later)
   module _ (view : WatchedView) (is : IsFollowing port view) where
     showing_later : (given : Bool) → IsShowing given (known port) view → IsShowing given (known later) view
     showing_later false showing = showing
-    showing_later true showing = (showing.0, rw (same_holds (known port) (known later) more view.task is.ready) showing.1)
+    showing_later true showing = (showing.0, rw (same_holds (known port) (known later) more view.task is.ready) showing.1, showing.2)
 
     pub follows_later : IsFollowing later view
     follows_later = record {

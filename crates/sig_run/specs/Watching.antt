@@ -10,8 +10,8 @@ use Rattle.sig_hist.specs.Ports.{PortState}
 use Rattle.sig_hist.specs.Sources.{Source}
 use Rattle.sig_report.specs.Playing.{Watched}
 use Rattle.sig_run.specs.declared.watching.WatchedView.{WatchedView}
-use Rattle.sig_view.specs.SoundRows.{IsLawfulBody, IsShownBy, are_complete, nothing_shown, replay_of}
-use Rattle.sig_view.specs.Tasks.{IsNew, IsReady, contents_of, expression_of, first_of, has_row, is_ended, is_failed, lacks_leaf, positions_of, view_of}
+use Rattle.sig_view.specs.SoundRows.{IsLawfulBody, IsShownBy, Seen, are_complete, nothing_seen, nothing_shown, replay_of, seen_of, tags_of}
+use Rattle.sig_view.specs.Tasks.{IsNew, IsReady, contents_of, expression_of, first_of, has_row, is_ended, is_failed, lacks_leaf, positions_of, tags_at, view_of}
 use Rattle.sig_view.specs.declared.rows.Body.{Body}
 use Rattle.sig_view.specs.declared.rows.Body.TheVariants.{Ended}
 
@@ -34,10 +34,15 @@ IsShowable shown body = IsLawfulBody shown body
 pub record ShowsItsRows (view : WatchedView) : Type 0 where
   pub replay : view.shown ≡ replay_of (nothing_shown (tree_of view)) view.rows
 
--- by whether a row was given: there is none and each leaf is to be fetched yet, or what is shown is the view's content
+-- what the rows have shown with their tags
+abbrev pub seen_by : WatchedView → Seen
+seen_by view = seen_of (nothing_seen (tree_of view)) view.rows
+
+-- by whether a row was given: there is none and each leaf is to be fetched yet, or what was seen is the view's content, with the
+-- tags that the task has
 abbrev pub IsShowing : Bool → PortState → WatchedView → Type 0
 IsShowing false s view = (view.rows ≡ []) × ((leaf : ℕ) → leaf < length (positions_of view.task) → lacks_leaf view.task leaf ≡ true)
-IsShowing true s view = (0 < length view.rows) × IsShownBy (view_of view.task) (contents_of s view.task) view.shown
+IsShowing true s view = (0 < length view.rows) × IsShownBy (view_of view.task) (contents_of s view.task) (seen_by view) × (is_ended view.task ≡ false → tags_of (seen_by view) ≡ tags_at view.task)
 
 -- between two polls on the port of one thread
 pub record IsFollowing (port : OneThread) (view : WatchedView) : Type 0 where

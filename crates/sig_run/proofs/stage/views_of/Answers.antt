@@ -17,7 +17,7 @@ new-requires-clause-built c =
 pub new-requires-clause-short : goal.new-requires-clause-short
 new-requires-clause-short c =
     subst (λ (def : ViewDef). longest (cap_of c.args.caps.now) (view_tree def.view) ≤ 65536) (sym c.def-item.is)
-    (next_short (cap_of c.args.caps.now) c.views.def-index c.args.defs.now c.def-item.result c.views.invariant.0 c.views.invariant.1 c.views-test.true)
+    (next_short (cap_of c.args.caps.now) c.views.def-index c.args.defs.now c.def-item.result c.views.invariant.1 c.views-test.true)
 
 pub views-preserved : goal.views-preserved
 views-preserved c =
