@@ -8,6 +8,7 @@ use Rattle.sig_expr.specs.Awaited.{awaits}
 use Rattle.sig_expr.specs.Shows.{shows}
 use Rattle.sig_expr.specs.Trees.{ViewTree, signal_view, vector_view, map_view}
 use Rattle.sig_expr.specs.declared.shown.Shown.{Shown}
+use Rattle.sig_hist.specs.Changes.{IsInOrder}
 use Rattle.sig_hist.specs.Histories.{is_closed}
 use Rattle.sig_hist.specs.OneThread.{no_source}
 use Rattle.sig_hist.specs.Sources.{Source, is_among, writers_of}
@@ -21,7 +22,7 @@ use Rattle.sig_report.proofs.RowSteps.{IsOpen, IsOpenBody, IsOver, complete_appe
 use Rattle.sig_report.specs.Playing.{Watched, advanced, is_at_end, polled, polled_later, with_row}
 use Rattle.sig_view.proofs.Leading.{view_leads}
 use Rattle.sig_view.specs.Built.{IsBuilt}
-use Rattle.sig_view.specs.Flow.{Way, first_body, flow}
+use Rattle.sig_view.specs.Flow.{GoesAhead, Way, first_body, flow}
 use Rattle.sig_view.specs.SoundRows.{AreSound, AreWithin, IsNextRow, IsShownBy, IsSoundRow, are_complete, contents_at, is_awaited, leaf_source, nothing_shown, shown_after, ways, without_tags}
 use Rattle.sig_view.specs.declared.rows.Body.{Body}
 use Rattle.sig_view.specs.declared.rows.Body.TheVariants.{Ended}
@@ -121,7 +122,7 @@ module _ (view : ViewTree ℕ) where
 
   -- ---- one poll
 
-  module _ (built : IsBuilt view) (looks : LooksBelow view) (sources final : List Source) (grow : AllGrow sources final) where
+  module _ (built : IsBuilt view) (looks : LooksBelow view) (sources final : List Source) (grow : AllGrow sources final) (in_order : (leaf : ℕ) → IsInOrder (leaf_source final leaf).plan.start) where
     same_contents : (at : List ℕ) → AreInside sources at → contents_at sources at ≡ contents_at final at
     same_contents at inside = λ i leaf. same_state _ _ (slice_index at leaf) (grow.each leaf) (inside.each leaf) i
 
@@ -150,7 +151,8 @@ module _ (view : ViewTree ℕ) where
 
       next_row : pointwise nat_eq from at ≡ false → IsNextRow view final from (shows view (contents_at final from)) at (flow (ways final from at) view)
       next_row moves =
-          let leads = view_leads (ways final from at) (none_falls view sources from at inside has) view _ built (shown_by_itself view built (contents_at final from)) in
+          let goes : (leaf : ℕ) → GoesAhead (ways final from at leaf) = λ leaf. record { ahead = none_falls view sources from at inside has leaf; in_order = in_order leaf } in
+          let leads = view_leads (ways final from at) goes view _ built (shown_by_itself view built (contents_at final from)) in
           record {
             within = still_within at here;
             goes_on = all_go_on view sources from at inside has;
