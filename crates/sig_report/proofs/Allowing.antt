@@ -1,7 +1,9 @@
 -- The writers of a source are those with edits on it.
-use Rattle.std.proofs.Common.{◌≡◌, inl, inr, ◌∙◌, ℕ, zero, suc, ◌+◌, ◌<◌, ◌≤◌, ◌==◌, List, [], ◌∷◌, ◌++◌, length, get_or, cond, Bool, true, false, not, refl, sym, ap, arith}
+use Rattle.std.proofs.Common.{◌≡◌, inl, inr, ◌∙◌, ℕ, zero, suc, ◌+◌, ◌<◌, ◌≤◌, ◌==◌, List, [], ◌∷◌, ◌++◌, length, get_or, All, cond, Bool, true, false, not, refl, sym, ap, arith}
 use Rattle.std.proofs.lemmas.Bool.{cases_lt, eq-eqb, eqb-true, ne_eqb}
 use Rattle.std.proofs.lemmas.List.{append-nil, get_or_past}
+use Rattle.std.proofs.lemmas.List.Elements.{All-head, All-tail}
+use Rattle.sig_hist.specs.Changes.{IsInOrder}
 use Rattle.sig_hist.specs.OneThread.{no_source}
 use Rattle.sig_hist.specs.Sources.{allowed, is_among, writers_of}
 use Rattle.sig_hist.specs.declared.plans.Allowance.{Allowance}
@@ -11,6 +13,7 @@ use Rattle.sig_report.specs.Lawful.{no_writer}
 use Rattle.sig_report.specs.Playing.{edits_of}
 use Rattle.sig_script.specs.Plans.{allowances, plans_of, share_plans, source_plans}
 use Rattle.sig_script.specs.Rooms.{edits_on, source_rooms}
+use Rattle.sig_script.specs.Starts.{StartsInOrder}
 use Rattle.sig_script.specs.declared.types.Script.{Script}
 use Rattle.sig_script.specs.declared.types.ShareDef.{ShareDef}
 use Rattle.sig_script.specs.declared.types.SourceDef.{SourceDef}
@@ -78,6 +81,11 @@ allow_at writers number zero (source ∷ sources) within = let same : number ≡
 allow_at writers number (suc place) (source ∷ sources) within =
     let same : number + 1 + place ≡ number + suc place = omega arith in allow_at writers (number + 1) place sources (omega arith) ∙ ap (λ (at : ℕ). allowances at 0 writers) same
 
+start_at : (writers : List WriterDef) (number : ℕ) (sources : List SourceDef) → All (λ (source : SourceDef). IsInOrder source.start) sources → (place : ℕ) → IsInOrder (get_or (source_plans writers number sources) place no_source.plan).start
+start_at writers number [] in_order place = tt
+start_at writers number (source ∷ sources) in_order zero = All-head (λ (source : SourceDef). IsInOrder source.start) source sources in_order
+start_at writers number (source ∷ sources) in_order (suc place) = start_at writers (number + 1) sources (All-tail (λ (source : SourceDef). IsInOrder source.start) source sources in_order) place
+
 pub no_edits_past : (script : Script) (writer : ℕ) → length script.writers ≤ writer → edits_of script writer ≡ []
 no_edits_past script writer past = ap (λ (one : WriterDef). one.edits) (get_or_past script.writers writer no_writer past)
 
@@ -86,6 +94,9 @@ module _ (script : Script) (unshared : script.shares ≡ []) where
   plans_are =
       let plans : List SourcePlan = source_plans script.writers 0 script.sources in
       ap (λ (shares : List ShareDef). plans ++ share_plans (length script.writers) (source_rooms script.writers 0 script.sources) shares) unshared ∙ append-nil plans
+
+  pub plan_in_order : StartsInOrder script → (number : ℕ) → IsInOrder (plan_at script number).start
+  plan_in_order in_order number = rw plans_are (start_at script.writers 0 script.sources in_order number)
 
   pub length_plans_of : length (plans_of script) ≡ length script.sources
   length_plans_of = ap length plans_are ∙ length_plans script.writers 0 script.sources

@@ -107,7 +107,7 @@ module _ (script : Script) (all_built : unbuilt script ≡ None) (final : List S
       let again = get_or-set_same once.views number (polled (numbered (view_tree (view_at script number))) (sources_of p.sources (view_at script number)) (watched_at once number)) (record { at = []; rows = [] })
       (rw (last_polled number p is).seen.views within) in
       ap (λ (watched : Watched). are_complete watched.rows) again
-      ∙ view_ends (view_at script number) built p.sources final (watched_at once number) (last_grows p is.sources) (rw is.sources closed) (polled_at script all_built final number p within is.seen (last_grows p is.sources))
+      ∙ view_ends (view_at script number) built p.sources final (watched_at once number) (last_grows p is.sources) is.seen.in_order (rw is.sources closed) (polled_at script all_built final number p within is.seen (last_grows p is.sources))
 
   elsewhere : (number other : ℕ) (p : Played) → other < number → watched_at (times 2 (by_view script number) p) other ≡ watched_at p other
   elsewhere number other p below =

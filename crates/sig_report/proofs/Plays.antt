@@ -11,14 +11,14 @@ use Rattle.sig_hist.specs.declared.edits.Edit.{Edit}
 use Rattle.sig_hist.specs.declared.edits.Edit.TheVariants.{Leave}
 use Rattle.sig_hist.specs.declared.edits.Entry.{Entry}
 use Rattle.sig_hist.specs.declared.plans.SourcePlan.{SourcePlan}
-use Rattle.sig_report.proofs.Allowing.{length_plans_of, writer_within}
+use Rattle.sig_report.proofs.Allowing.{length_plans_of, plan_in_order, writer_within}
 use Rattle.sig_report.proofs.Among.{all_among}
 use Rattle.sig_report.proofs.Endings.{AllEnded, Writes, all_done, all_ended, all_write, ended_from, written_from}
 use Rattle.sig_report.proofs.Events.{IsPlay, map_at, source_at}
 use Rattle.sig_report.proofs.Polls.{unseen}
 use Rattle.sig_report.proofs.Reports.{each_source, each_view, source_names_are, source_report, sources_are, view_names_are, view_report}
 use Rattle.sig_report.proofs.Schedules.{AllSeen, schedule_goes, schedule_seen, seen_later}
-use Rattle.sig_report.proofs.Views.{SeesView, no_shares, view_sound, views_are}
+use Rattle.sig_report.proofs.Views.{AllInOrder, SeesView, no_shares, view_sound, views_are}
 use Rattle.sig_report.proofs.Writers.{edits_on_append, events_on, own_edits, plan_at}
 use Rattle.sig_report.specs.Lawful.{EachPair, IsLawfulSource, IsLawfulView, Lawful, all_views, edits_by, no_writer, sources_in}
 use Rattle.sig_script.specs.Leaving.{has_no_leaves}
@@ -27,6 +27,7 @@ use Rattle.sig_report.specs.declared.report.SourceReport.{SourceReport}
 use Rattle.sig_script.specs.Built.{unbuilt}
 use Rattle.sig_script.specs.Plans.{plans_of}
 use Rattle.sig_script.specs.Rooms.{edits_on}
+use Rattle.sig_script.specs.Starts.{StartsInOrder}
 use Rattle.sig_script.specs.declared.types.Script.{Script}
 use Rattle.sig_script.specs.declared.types.ShareDef.{ShareDef}
 use Rattle.sig_script.specs.declared.types.SourceDef.{SourceDef}
@@ -73,8 +74,9 @@ opened_play script unshared = record {
 }
 
 module _ (script : Script) (all_built : unbuilt script ≡ None) (no_leaves : has_no_leaves script ≡ true) where
-  opened_seen : (final : List Source) → AllSeen script all_built final (opened script)
-  opened_seen final = record {
+  opened_seen : (final : List Source) → AllInOrder final → AllSeen script all_built final (opened script)
+  opened_seen final in_order = record {
+    in_order = in_order;
     views = length-map (all_views script) _;
     sees = λ number within.
         let nothing : Watched = record { at = []; rows = [] } in
@@ -117,81 +119,85 @@ module _ (script : Script) (all_built : unbuilt script ≡ None) (no_leaves : ha
     closed_at_last = all_among (λ writer. has_left writer (source_at written_out number).history) (writers_of (source_at written_out number).plan.allow) (λ writer among.
         by_edits (own_entries writer (source_at written_out number).history) ∙ ap is_last_leave (own_at_last writer among) ∙ leave_is_last (edits_on number (edits_of script writer)))
 
-  seen_at_last : AllSeen script all_built written_out.sources written_out
-  seen_at_last =
-      seen_later script all_built written_out.sources (scheduled script script.schedule (opened script)) written_out writing.views writing.goes.grows
-      (schedule_seen script all_built no_leaves written_out.sources script.schedule (opened script) (opened_play script (no_shares script all_built)) writing.goes.grows (opened_seen written_out.sources))
+  module _ (in_order : StartsInOrder script) where
+    in_order_at_last : AllInOrder written_out.sources
+    in_order_at_last number = rw (writing.goes.play.made number).plan (plan_in_order script (no_shares script all_built) in_order number)
 
-  views_within : length script.views ≡ length (all_views script)
-  views_within = sym (ap length (views_are script (no_shares script all_built)) ∙ length-map script.views _)
+    seen_at_last : AllSeen script all_built written_out.sources written_out
+    seen_at_last =
+        seen_later script all_built written_out.sources (scheduled script script.schedule (opened script)) written_out writing.views writing.goes.grows
+        (schedule_seen script all_built no_leaves written_out.sources script.schedule (opened script) (opened_play script (no_shares script all_built)) writing.goes.grows (opened_seen written_out.sources in_order_at_last))
 
-  over : AllEnded script all_built written_out.sources closed_at_last 0 (length script.views) written_out (played script)
-  over = rw played_is (all_ended script all_built written_out.sources closed_at_last 0 script.views written_out (omega (arith, views_within)) (record { seen = seen_at_last; sources = refl }))
+    views_within : length script.views ≡ length (all_views script)
+    views_within = sym (ap length (views_are script (no_shares script all_built)) ∙ length-map script.views _)
 
-  -- ---- the report
+    over : AllEnded script all_built written_out.sources closed_at_last 0 (length script.views) written_out (played script)
+    over = rw played_is (all_ended script all_built written_out.sources closed_at_last 0 script.views written_out (omega (arith, views_within)) (record { seen = seen_at_last; sources = refl }))
 
-  lawful_source : (number : ℕ) (name : List ℕ) → IsLawfulSource (source_at written_out number) (edits_by script (play script) number) (source_report name (source_at written_out number))
-  lawful_source number name = record {
-    start = refl;
-    legal = (writing.goes.play.made number).legal;
-    last = refl;
-    edits = λ writer among. own_at_last number writer among ∙ (let exists : nat_lt writer (length script.writers) ≡ true = lt-ltb writer (length script.writers) (writes_it number writer among) in rw exists refl);
-    nothing_else = (writing.goes.play.made number).by_writers;
-  }
+    -- ---- the report
 
-  lawful_view : (number : ℕ) (name : List ℕ) → number < length (all_views script) → IsLawfulView written_out.sources (view_at script number) (view_report name (view_at script number) (watched_at (played script) number))
-  lawful_view number name within =
-      let same : 0 + number ≡ number = omega arith in
-      let complete : are_complete (watched_at (played script) number).rows ≡ true = rw same at (over.ended number (rw views_within within)) in
-      record {
-        kind = refl;
-        sound = view_sound (view_at script number) (played script).sources written_out.sources (watched_at (played script) number) (over.last.seen.sees number within) complete;
-        complete = complete;
-        last = refl;
-      }
+    lawful_source : (number : ℕ) (name : List ℕ) → IsLawfulSource (source_at written_out number) (edits_by script (play script) number) (source_report name (source_at written_out number))
+    lawful_source number name = record {
+      start = refl;
+      legal = (writing.goes.play.made number).legal;
+      last = refl;
+      edits = λ writer among. own_at_last number writer among ∙ (let exists : nat_lt writer (length script.writers) ≡ true = lt-ltb writer (length script.writers) (writes_it number writer among) in rw exists refl);
+      nothing_else = (writing.goes.play.made number).by_writers;
+    }
 
-  length_source_names : length (source_names script) ≡ length written_out.sources
-  length_source_names =
-      let shares : length (map (λ (share : ShareDef). share.name) script.shares) ≡ 0 = rw (no_shares script all_built) refl in
-      omega (arith, length-append (map (λ (source : SourceDef). source.name) script.sources) (map (λ (share : ShareDef). share.name) script.shares), length-map script.sources (λ (source : SourceDef). source.name), shares, writing.goes.play.sources)
+    lawful_view : (number : ℕ) (name : List ℕ) → number < length (all_views script) → IsLawfulView written_out.sources (view_at script number) (view_report name (view_at script number) (watched_at (played script) number))
+    lawful_view number name within =
+        let same : 0 + number ≡ number = omega arith in
+        let complete : are_complete (watched_at (played script) number).rows ≡ true = rw same at (over.ended number (rw views_within within)) in
+        record {
+          kind = refl;
+          sound = view_sound (view_at script number) (played script).sources written_out.sources (watched_at (played script) number) (over.last.seen.sees number within) complete;
+          complete = complete;
+          last = refl;
+        }
 
-  length_view_names : length (view_names script) ≡ length (all_views script)
-  length_view_names =
-      let shares : length (map (λ (share : ShareDef). share.name) script.shares) ≡ 0 = rw (no_shares script all_built) refl in
-      omega (arith, length-append (map (λ (share : ShareDef). share.name) script.shares) (map (λ (view : ViewDef). view.name) script.views), length-map script.views (λ (view : ViewDef). view.name), shares, views_within)
+    length_source_names : length (source_names script) ≡ length written_out.sources
+    length_source_names =
+        let shares : length (map (λ (share : ShareDef). share.name) script.shares) ≡ 0 = rw (no_shares script all_built) refl in
+        omega (arith, length-append (map (λ (source : SourceDef). source.name) script.sources) (map (λ (share : ShareDef). share.name) script.shares), length-map script.sources (λ (source : SourceDef). source.name), shares, writing.goes.play.sources)
 
-  reported_are : (play script).sources ≡ source_reports (source_names script) written_out.sources
-  reported_are = ap (source_reports (source_names script)) over.last.sources
+    length_view_names : length (view_names script) ≡ length (all_views script)
+    length_view_names =
+        let shares : length (map (λ (share : ShareDef). share.name) script.shares) ≡ 0 = rw (no_shares script all_built) refl in
+        omega (arith, length-append (map (λ (share : ShareDef). share.name) script.shares) (map (λ (view : ViewDef). view.name) script.views), length-map script.views (λ (view : ViewDef). view.name), shares, views_within)
 
-  listed_are : sources_in (plans_of script) (source_reports (source_names script) written_out.sources) ≡ written_out.sources
-  listed_are =
-      let planned : length (plans_of script) ≡ length written_out.sources = length_plans_of script (no_shares script all_built) ∙ sym writing.goes.play.sources in
-      sources_are (plans_of script) (source_names script) written_out.sources length_source_names planned (λ number. (writing.goes.play.made number).plan)
+    reported_are : (play script).sources ≡ source_reports (source_names script) written_out.sources
+    reported_are = ap (source_reports (source_names script)) over.last.sources
 
-  abbrev LawfulAt : ℕ → Source → SourceReport → Type 0
-  LawfulAt number source reported = IsLawfulSource source (edits_by script (play script) number) reported
+    listed_are : sources_in (plans_of script) (source_reports (source_names script) written_out.sources) ≡ written_out.sources
+    listed_are =
+        let planned : length (plans_of script) ≡ length written_out.sources = length_plans_of script (no_shares script all_built) ∙ sym writing.goes.play.sources in
+        sources_are (plans_of script) (source_names script) written_out.sources length_source_names planned (λ number. (writing.goes.play.made number).plan)
 
-  sources_lawful : EachPair LawfulAt 0 (sources_in (plans_of script) (play script).sources) (play script).sources
-  sources_lawful =
-      let each : EachPair LawfulAt 0 written_out.sources (source_reports (source_names script) written_out.sources) =
-      each_source LawfulAt 0 (source_names script) written_out.sources length_source_names (λ place name within.
-      subst (λ (number : ℕ). LawfulAt number (source_at written_out place) (source_report name (source_at written_out place))) (omega arith) (lawful_source place name)) in
-      subst (λ (reported : List SourceReport). EachPair LawfulAt 0 (sources_in (plans_of script) reported) reported) (sym reported_are)
-      (subst (λ (sources : List Source). EachPair LawfulAt 0 sources (source_reports (source_names script) written_out.sources)) (sym listed_are) each)
+    abbrev LawfulAt : ℕ → Source → SourceReport → Type 0
+    LawfulAt number source reported = IsLawfulSource source (edits_by script (play script) number) reported
 
-  abbrev ViewsLawful : List Source → Type 0
-  ViewsLawful sources = EachPair (λ number shown reported. IsLawfulView sources shown reported) 0 (all_views script) (play script).views
+    sources_lawful : EachPair LawfulAt 0 (sources_in (plans_of script) (play script).sources) (play script).sources
+    sources_lawful =
+        let each : EachPair LawfulAt 0 written_out.sources (source_reports (source_names script) written_out.sources) =
+        each_source LawfulAt 0 (source_names script) written_out.sources length_source_names (λ place name within.
+        subst (λ (number : ℕ). LawfulAt number (source_at written_out place) (source_report name (source_at written_out place))) (omega arith) (lawful_source place name)) in
+        subst (λ (reported : List SourceReport). EachPair LawfulAt 0 (sources_in (plans_of script) reported) reported) (sym reported_are)
+        (subst (λ (sources : List Source). EachPair LawfulAt 0 sources (source_reports (source_names script) written_out.sources)) (sym listed_are) each)
 
-  views_lawful : ViewsLawful (sources_in (plans_of script) (play script).sources)
-  views_lawful =
-      subst ViewsLawful (sym (ap (sources_in (plans_of script)) reported_are ∙ listed_are))
-      (each_view (λ number shown reported. IsLawfulView written_out.sources shown reported) 0 (view_names script) (all_views script) (played script).views (View.Vector (VecExpr.Vector 0)) (record { at = []; rows = [] })
-      length_view_names over.last.seen.views (λ place name within. lawful_view place name within))
+    abbrev ViewsLawful : List Source → Type 0
+    ViewsLawful sources = EachPair (λ number shown reported. IsLawfulView sources shown reported) 0 (all_views script) (play script).views
 
-  pub play_is_lawful : Lawful script (play script)
-  play_is_lawful = record {
-    source_names = ap (map (λ (source : SourceReport). source.name)) reported_are ∙ source_names_are (source_names script) written_out.sources length_source_names;
-    sources = sources_lawful;
-    view_names = view_names_are (view_names script) (all_views script) (played script).views length_view_names over.last.seen.views;
-    views = views_lawful;
-  }
+    views_lawful : ViewsLawful (sources_in (plans_of script) (play script).sources)
+    views_lawful =
+        subst ViewsLawful (sym (ap (sources_in (plans_of script)) reported_are ∙ listed_are))
+        (each_view (λ number shown reported. IsLawfulView written_out.sources shown reported) 0 (view_names script) (all_views script) (played script).views (View.Vector (VecExpr.Vector 0)) (record { at = []; rows = [] })
+        length_view_names over.last.seen.views (λ place name within. lawful_view place name within))
+
+    pub play_is_lawful : Lawful script (play script)
+    play_is_lawful = record {
+      source_names = ap (map (λ (source : SourceReport). source.name)) reported_are ∙ source_names_are (source_names script) written_out.sources length_source_names;
+      sources = sources_lawful;
+      view_names = view_names_are (view_names script) (all_views script) (played script).views length_view_names over.last.seen.views;
+      views = views_lawful;
+    }

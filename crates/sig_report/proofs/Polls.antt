@@ -9,6 +9,7 @@ use Rattle.sig_expr.specs.Scratch.{list_of}
 use Rattle.sig_expr.specs.Trees.{ViewTree, signal_view, vector_view, map_view, entries_view, tagged_view}
 use Rattle.sig_expr.specs.declared.shown.Shown.{Shown}
 use Rattle.sig_expr.specs.declared.shown.Shown.TheVariants as shown
+use Rattle.sig_hist.specs.Changes.{IsInOrder}
 use Rattle.sig_hist.specs.Histories.{is_closed}
 use Rattle.sig_hist.specs.OneThread.{no_source}
 use Rattle.sig_hist.specs.Sources.{Source, is_among, writers_of}
@@ -25,7 +26,7 @@ use Rattle.sig_ops.specs.Enumerating.{Enumeration, tagged_from}
 use Rattle.sig_view.proofs.Leading.{BodyLeads, view_leads}
 use Rattle.sig_view.proofs.Tags.{as_many_tags}
 use Rattle.sig_view.specs.Built.{IsBuilt}
-use Rattle.sig_view.specs.Flow.{Way, first_body, flow, with_tags}
+use Rattle.sig_view.specs.Flow.{GoesAhead, Way, first_body, flow, with_tags}
 use Rattle.sig_view.specs.SoundRows.{AreSound, AreWithin, IsNextRow, IsShownBy, IsSoundRow, Seen, are_complete, contents_at, has_tags, is_awaited, leaf_source, nothing_seen, seen_after, seen_of, shown_after, tags_of, ways}
 use Rattle.sig_view.specs.declared.rows.Body.{Body}
 use Rattle.sig_view.specs.declared.rows.Body.TheVariants as body
@@ -134,7 +135,7 @@ module _ (view : ViewTree ℕ) where
 
   -- ---- one poll
 
-  module _ (built : IsBuilt view) (looks : LooksBelow view) (sources final : List Source) (grow : AllGrow sources final) where
+  module _ (built : IsBuilt view) (looks : LooksBelow view) (sources final : List Source) (grow : AllGrow sources final) (in_order : (leaf : ℕ) → IsInOrder (leaf_source final leaf).plan.start) where
     same_contents : (at : List ℕ) → AreInside sources at → contents_at sources at ≡ contents_at final at
     same_contents at inside = λ i leaf. same_state _ _ (slice_index at leaf) (grow.each leaf) (inside.each leaf) i
 
@@ -165,8 +166,11 @@ module _ (view : ViewTree ℕ) where
         abbrev given : Body
         given = with_tags (tags_of seen) (flow (ways final from at) view)
 
-        leads : BodyLeads (ways final from at) (none_falls view sources from at inside has) view seen.shown seen.next
-        leads = view_leads (ways final from at) (none_falls view sources from at inside has) view seen.shown seen.next built (record { kind = shows_it.kind; shows = shows_it.shows; tags = shows_it.tags })
+        goes : (leaf : ℕ) → GoesAhead (ways final from at leaf)
+        goes leaf = record { ahead = none_falls view sources from at inside has leaf; in_order = in_order leaf }
+
+        leads : BodyLeads (ways final from at) goes view seen.shown seen.next
+        leads = view_leads (ways final from at) goes view seen.shown seen.next built (record { kind = shows_it.kind; shows = shows_it.shows; tags = shows_it.tags })
 
         next_row : pointwise nat_eq from at ≡ false → IsNextRow view final from seen at given
         next_row moves = record {

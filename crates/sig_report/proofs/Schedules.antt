@@ -5,7 +5,7 @@ use Rattle.std.proofs.lemmas.List.{get_or-set_same, get_or-set_other, length-set
 use Rattle.sig_hist.specs.Sources.{Source}
 use Rattle.sig_report.proofs.Events.{GoesOn, IsPlay, share_goes, source_at, writer_goes}
 use Rattle.sig_report.proofs.Growing.{grows_not, grows_on}
-use Rattle.sig_report.proofs.Views.{GrowOn, PolledView, SeesView, built_at, no_shares, view_more, view_polled, view_sees}
+use Rattle.sig_report.proofs.Views.{AllInOrder, GrowOn, PolledView, SeesView, built_at, no_shares, view_more, view_polled, view_sees}
 use Rattle.sig_report.specs.Lawful.{all_views}
 use Rattle.sig_script.specs.Leaving.{has_no_leaves}
 use Rattle.sig_report.specs.Playing.{Played, Watched, by_share, by_view, by_writer, scheduled, taken, view_at, watched_at}
@@ -41,13 +41,15 @@ module _ (script : Script) (all_built : unbuilt script ≡ None) where
   -- ---- the views
 
   module _ (final : List Source) where
-    -- the rows of each view are sound for the last sources
+    -- the rows of each view are sound for the last sources, which started in order
     pub record AllSeen (p : Played) : Type 0 where
+      pub in_order : AllInOrder final
       pub views : length p.views ≡ length (all_views script)
       pub sees : (number : ℕ) → number < length (all_views script) → SeesView (view_at script number) p.sources final (watched_at p number)
 
     pub seen_later : (p later : Played) → later.views ≡ p.views → GrowOn p.sources later.sources → AllSeen p → AllSeen later
     seen_later p later same grows seen = record {
+      in_order = seen.in_order;
       views = ap length same ∙ seen.views;
       sees = λ number within.
           subst (λ (views : List Watched). SeesView (view_at script number) later.sources final (get_or views number (record { at = []; rows = [] }))) (sym same)
@@ -58,7 +60,7 @@ module _ (script : Script) (all_built : unbuilt script ≡ None) where
         PolledView (view_at script number) p.sources final (watched_at (by_view script number p) number)
     polled_at number p within seen grows =
         let now = get_or-set_same p.views number _ (record { at = []; rows = [] }) (rw seen.views within) in
-        subst (λ (watched : Watched). PolledView (view_at script number) p.sources final watched) (sym now) (view_polled (view_at script number) (built_at script all_built number _ within) p.sources final (watched_at p number) grows (seen.sees number within))
+        subst (λ (watched : Watched). PolledView (view_at script number) p.sources final watched) (sym now) (view_polled (view_at script number) (built_at script all_built number _ within) p.sources final (watched_at p number) grows seen.in_order (seen.sees number within))
 
     seen_by : (number other : ℕ) (p : Played) (within : other < length (all_views script)) (same : Bool) → (number == other) ≡ same → AllSeen p → GrowsTo final p →
         SeesView (view_at script other) p.sources final (watched_at (by_view script number p) other)
@@ -70,7 +72,7 @@ module _ (script : Script) (all_built : unbuilt script ≡ None) where
         subst (λ (watched : Watched). SeesView (view_at script other) p.sources final watched) (sym stays) (seen.sees other within)
 
     pub seen_polled : (number : ℕ) (p : Played) → AllSeen p → GrowsTo final p → AllSeen (by_view script number p)
-    seen_polled number p seen grows = record { views = length-set p.views number _ ∙ seen.views; sees = λ other within. seen_by number other p within (number == other) refl seen grows }
+    seen_polled number p seen grows = record { in_order = seen.in_order; views = length-set p.views number _ ∙ seen.views; sees = λ other within. seen_by number other p within (number == other) refl seen grows }
 
   -- ---- the events
 

@@ -8,6 +8,7 @@ use Rattle.sig_expr.specs.Shapes.{map_tree, sig_tree, vec_tree, view_tree}
 use Rattle.sig_expr.specs.Trees.{MapTree, map_source, SigTree, cell, mapped_signal, deduped, switched, length_of, total_of, VecTree, vector, mapped, filtered, filtered_by, mapped_by, sorted, picked, SigTrees, no_signals, more_signals, VecTrees, no_lists, more_lists}
 use Rattle.sig_expr.specs.declared.expressions.View.{View}
 use Rattle.sig_expr.specs.declared.expressions.View.TheVariants.{Map, Signal, Vector}
+use Rattle.sig_hist.specs.Changes.{IsInOrder}
 use Rattle.sig_hist.specs.Histories.{is_closed}
 use Rattle.sig_hist.specs.OneThread.{no_source}
 use Rattle.sig_hist.specs.Sources.{Source, writers_of}
@@ -134,6 +135,15 @@ leaf_closed sources [] closed leaf = refl
 leaf_closed sources (label ∷ labels) closed zero = closed label
 leaf_closed sources (label ∷ labels) closed (suc leaf) = leaf_closed sources labels closed leaf
 
+-- each source of the play starts in order
+abbrev pub AllInOrder : List Source → Type 0
+AllInOrder sources = (number : ℕ) → IsInOrder (get_or sources number no_source).plan.start
+
+leaf_in_order : (sources : List Source) (labels : List ℕ) → AllInOrder sources → (leaf : ℕ) → IsInOrder (leaf_source (map (λ source. get_or sources source no_source) labels) leaf).plan.start
+leaf_in_order sources [] in_order leaf = tt
+leaf_in_order sources (label ∷ labels) in_order zero = in_order label
+leaf_in_order sources (label ∷ labels) in_order (suc leaf) = leaf_in_order sources labels in_order leaf
+
 module _ (shown : View) where
   leaves_grow : (sources later : List Source) → GrowOn sources later → AllGrow (sources_of sources shown) (sources_of later shown)
   leaves_grow sources later grow = record {
@@ -156,9 +166,9 @@ module _ (shown : View) where
   pub view_sound : (sources final : List Source) (watched : Watched) → SeesView sources final watched → are_complete watched.rows ≡ true → AreSound (numbered (view_tree shown)) (sources_of final shown) watched.rows
   view_sound sources final watched sees complete = sound_at_end _ _ _ watched.at watched.rows sees complete
 
-  module _ (built : IsBuilt (view_tree shown)) (sources final : List Source) (watched : Watched) (grow : GrowOn sources final) where
+  module _ (built : IsBuilt (view_tree shown)) (sources final : List Source) (watched : Watched) (grow : GrowOn sources final) (in_order : AllInOrder final) where
     pub view_polled : SeesView sources final watched → PolledView sources final (polled (numbered (view_tree shown)) (sources_of sources shown) watched)
-    view_polled sees = poll _ (numbered_built (view_tree shown) built) (numbered_looks (view_tree shown)) _ _ (leaves_grow sources final grow) watched.at watched.rows sees
+    view_polled sees = poll _ (numbered_built (view_tree shown) built) (numbered_looks (view_tree shown)) _ _ (leaves_grow sources final grow) (leaf_in_order final (leaves (view_tree shown)) in_order) watched.at watched.rows sees
 
     pub view_ends : AllClosed sources → PolledView sources final watched → are_complete (polled (numbered (view_tree shown)) (sources_of sources shown) watched).rows ≡ true
-    view_ends closed is = last_poll _ (numbered_built (view_tree shown) built) (numbered_looks (view_tree shown)) _ _ (leaves_grow sources final grow) watched.at watched.rows (leaf_closed sources (leaves (view_tree shown)) closed) is
+    view_ends closed is = last_poll _ (numbered_built (view_tree shown) built) (numbered_looks (view_tree shown)) _ _ (leaves_grow sources final grow) (leaf_in_order final (leaves (view_tree shown)) in_order) watched.at watched.rows (leaf_closed sources (leaves (view_tree shown)) closed) is

@@ -12,3 +12,4 @@ pub mod Rising
 pub mod SelfContained
 pub mod Sizing
 pub mod Spending
+pub mod Starts

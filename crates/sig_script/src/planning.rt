@@ -1,5 +1,6 @@
 ghost use Rattle.std.specs.Prelude.{◌≡◌, ◌+◌, ◌-◌, ℕ, [], ◌∷◌, All, IfOk};
 ghost use Rattle.sig_diff.specs.declared.contents.Content.TheVariants.{Cell};
+ghost use Rattle.sig_hist.specs.Changes.{IsInOrder};
 ghost use Rattle.sig_hist.specs.Sources.{IsPlan};
 ghost use Rattle.sig_script.specs.Growths.{clipped};
 ghost use Rattle.sig_script.specs.Plans.{allowances, plans_of, source_plans};
@@ -61,10 +62,21 @@ fn source_plan(
     // A plan is one whose room fits too.
     let _room = fitted(source_room(number, writers))?;
     Ok(SourcePlan {
-        start: source.start.copy()?,
+        start: start_of(source)?,
         cap: cap_of(source, number, writers)?,
         allow: allowances(alloc, number, writers)?,
     })
+}
+
+/// What a source starts with. Of a map's slice it is known that the keys rise.
+fn start_of(source: &SourceDef) -> Result<Content, NoMemory>
+    ensures start { IfOk result (λ start. start ≡ source.now.start) }
+    ensures in_order { IsInOrder source.now.start }
+{
+    if let Content::Map(entries) = &source.start {
+        let _ = entries.as_slice();
+    }
+    source.start.copy()
 }
 
 /// Who may edit a source, and how often.

@@ -1,5 +1,5 @@
 -- What a view gives as its leaves go on leads from what it shows before to what it shows after.
-use Rattle.std.proofs.Common.{◌≡◌, ◌≢◌, ◌∙◌, ℕ, ◌+◌, ◌≤◌, ℤ, pos, List, [], ◌∷◌, ◌++◌, length, filter_map, cond, Bool, true, false, not, Option, None, Some, option_map, option_and_then, refl, sym, ap}
+use Rattle.std.proofs.Common.{◌≡◌, ◌≢◌, ◌∙◌, ℕ, ◌+◌, ℤ, pos, List, [], ◌∷◌, ◌++◌, length, filter_map, cond, Bool, true, false, not, Option, None, Some, option_map, option_and_then, refl, sym, ap}
 use Rattle.std.specs.Option.{option_map_or, option_to_list, unwrap_or}
 use Rattle.std.specs.Ordering.{int_eq}
 use Rattle.std.proofs.lemmas.Bool.Decides.{Decides-int_eq}
@@ -32,7 +32,7 @@ use Rattle.sig_view.proofs.ByClass.{EachGoes, no_part, one_part, SignalsGo, filt
 use Rattle.sig_view.proofs.Tags.{tags_differ, tags_follow, tags_lawful, tags_replay}
 use Rattle.sig_view.proofs.Turning.{Leads, behind_is, entering_leads, filter_keeps_up, map_leads, sorted_keeps_up, through_leads}
 use Rattle.sig_view.specs.Built.{AreListsBuilt, AreSignalsBuilt, IsBuilt, IsListBuilt, IsMapBuilt, IsSignalBuilt}
-use Rattle.sig_view.specs.Flow.{Way, before, flow, list_flow, list_flows, map_flow, new, old, passed, tags_after, value_flow, value_flows, with_tags}
+use Rattle.sig_view.specs.Flow.{GoesAhead, Way, before, flow, list_flow, list_flows, map_flow, new, old, passed, tags_after, value_flow, value_flows, with_tags}
 use Rattle.sig_view.specs.SoundRows.{IsLawfulBody, IsShownBy, TagsDiffer, shown_after, tags_in, tags_made, without_tags}
 
 -- ---- maps
@@ -60,9 +60,9 @@ delete_taken : (pairs : List (ℤ × ℤ)) (key : ℤ) (has : Bool) → has_key 
 delete_taken pairs key true is = is
 delete_taken pairs key false is = tt
 
-load_taken : (pairs others : List (ℤ × ℤ)) (long : Bool) → IsTaken pairs (cond long None (Some (Change.map (changed.Replace others))))
-load_taken pairs others true = tt
-load_taken pairs others false = refl
+load_taken : (pairs others : List (ℤ × ℤ)) (fits : Bool) → IsTaken pairs (cond fits (Some (Change.map (changed.Replace others))) None)
+load_taken pairs others true = refl
+load_taken pairs others false = tt
 
 edit_taken : (pairs : List (ℤ × ℤ)) (cap : ℕ) (edit : Edit) → IsTaken pairs (change_of (Map pairs) cap edit)
 edit_taken pairs cap (Put key value) = put_taken pairs key value (has_key key pairs) _ refl
@@ -145,11 +145,11 @@ dedupe_leads (Some x) last = given_leads last x (int_eq last x) refl
 
 -- ---- views
 
-module _ {L : Type 0} (way : L → Way) (ahead : (leaf : L) → (way leaf).from ≤ (way leaf).to) where
+module _ {L : Type 0} (way : L → Way) (goes : (leaf : L) → GoesAhead (way leaf)) where
   mutual
     -- a list
     pub flow_leads : (e : VecTree L) → IsListBuilt e → Leads (list_of (old way) e) (list_flow way e) (list_of (new way) e)
-    flow_leads (vector leaf) is = rw (behind_is (way leaf) (ahead leaf)) (entering_leads (before (way leaf)) (way leaf).source.plan.cap (passed (way leaf)))
+    flow_leads (vector leaf) is = rw (behind_is (way leaf) (goes leaf).ahead) (entering_leads (before (way leaf)) (way leaf).source.plan.cap (passed (way leaf)))
     flow_leads (mapped f e) is = map_leads (image f) (list_of (old way) e) (list_flow way e) (list_of (new way) e) (flow_leads e is)
     flow_leads (filtered p e) is = through_leads (filter_keeps_up (passes p)) (list_of (old way) e) (list_flow way e) (list_of (new way) e) (flow_leads e is)
     flow_leads (sorted f e) is = through_leads (sorted_keeps_up (image f)) (list_of (old way) e) (list_flow way e) (list_of (new way) e) (flow_leads e is)
@@ -163,7 +163,7 @@ module _ {L : Type 0} (way : L → Way) (ahead : (leaf : L) → (way leaf).from 
 
     -- a signal
     pub signal_leads : (e : SigTree L) → IsSignalBuilt e → value_of (new way) e ≡ unwrap_or (value_flow way e) (value_of (old way) e)
-    signal_leads (cell leaf) is = rw (behind_is (way leaf) (ahead leaf)) (number_entering_leads (before (way leaf)) (way leaf).source.plan.cap (passed (way leaf)))
+    signal_leads (cell leaf) is = rw (behind_is (way leaf) (goes leaf).ahead) (number_entering_leads (before (way leaf)) (way leaf).source.plan.cap (passed (way leaf)))
     signal_leads (mapped_signal f e) is = ap (image f) (signal_leads e is) ∙ image_leads (image f) (value_flow way e) (value_of (old way) e)
     signal_leads (deduped e) is = signal_leads e is ∙ dedupe_leads (value_flow way e) (value_of (old way) e)
     signal_leads (switched e bank) is =
@@ -182,7 +182,7 @@ module _ {L : Type 0} (way : L → Way) (ahead : (leaf : L) → (way leaf).from 
     lists_lead (more_lists e bank) is = one_part (list_of (old way) e) (list_flow way e) (list_of (new way) e) (flow_leads e is.0) (lists_lead bank is.1)
 
   pub map_flow_leads : (m : MapTree L) → IsMapBuilt m → MapLeads (entries_of (old way) m) (map_flow way m) (entries_of (new way) m)
-  map_flow_leads (map_source leaf) is = rw (behind_is (way leaf) (ahead leaf)) (map_entering_leads (before (way leaf)) (way leaf).source.plan.cap (passed (way leaf)))
+  map_flow_leads (map_source leaf) is = rw (behind_is (way leaf) (goes leaf).ahead) (map_entering_leads (before (way leaf)) (way leaf).source.plan.cap (passed (way leaf)))
   map_flow_leads _ is = absurd is
 
   -- the body is lawful where the view's content before is shown, and the content after is shown then, with the tags that follow

@@ -32,7 +32,7 @@ use Rattle.sig_view.proofs.Leading.{flow_leads, signal_leads, signals_lead}
 use Rattle.sig_view.proofs.Staying.{same_plan}
 use Rattle.sig_view.proofs.Turning.{KeepsUp, Leads, filter_keeps_up, map_keeps_up, map_leads, map_through, sorted_keeps_up, through_follows, through_leads}
 use Rattle.sig_view.specs.Built.{AreListsBuilt, IsListBuilt}
-use Rattle.sig_view.specs.Flow.{Way, before, by_signals, given_list, list_flow, list_flows, new, old, passed, state_at, through, value_flow}
+use Rattle.sig_view.specs.Flow.{GoesAhead, Way, before, by_signals, given_list, list_flow, list_flows, new, old, passed, state_at, through, value_flow}
 use Rattle.sig_view.specs.Longest.{vec_longest, vecs_longest}
 use Rattle.sig_view.specs.Nodes.{ListOps, list_tree}
 use Rattle.sig_view.specs.SoundRows.{GoOn, contents_at, leaf_source, ways}
@@ -166,7 +166,7 @@ module _ (most : ℕ) where
 
 -- ---- lists
 
-module _ {L : Type 0} (way : L → Way) (ahead : (leaf : L) → (way leaf).from ≤ (way leaf).to) (short : (leaf : L) → length (list_in (before (way leaf))) ≤ (way leaf).source.plan.cap) (most : ℕ) where
+module _ {L : Type 0} (way : L → Way) (goes : (leaf : L) → GoesAhead (way leaf)) (short : (leaf : L) → length (list_in (before (way leaf))) ≤ (way leaf).source.plan.cap) (most : ℕ) where
   abbrev cap : L → ℕ
   cap leaf = (way leaf).source.plan.cap
 
@@ -176,23 +176,23 @@ module _ {L : Type 0} (way : L → Way) (ahead : (leaf : L) → (way leaf).from 
       before = le_trans (short leaf) few;
       stays = stays_for_more (cap leaf) most few _ _ (entering_short (before (way leaf)) (cap leaf) (passed (way leaf)) (short leaf));
     }
-    flows_short (mapped f e) is few = map_short most (image f) (list_of (old way) e) (list_flow way e) (flow_leads way ahead e is).lawful (flows_short e is few)
-    flows_short (filtered p e) is few = through_short most (filter_keeps_up (passes p)) (list_of (old way) e) (list_flow way e) (flow_leads way ahead e is).lawful (flows_short e is few)
-    flows_short (sorted f e) is few = through_short most (sorted_keeps_up (image f)) (list_of (old way) e) (list_flow way e) (flow_leads way ahead e is).lawful (flows_short e is few)
+    flows_short (mapped f e) is few = map_short most (image f) (list_of (old way) e) (list_flow way e) (flow_leads way goes e is).lawful (flows_short e is few)
+    flows_short (filtered p e) is few = through_short most (filter_keeps_up (passes p)) (list_of (old way) e) (list_flow way e) (flow_leads way goes e is).lawful (flows_short e is few)
+    flows_short (sorted f e) is few = through_short most (sorted_keeps_up (image f)) (list_of (old way) e) (list_flow way e) (flow_leads way goes e is).lawful (flows_short e is few)
     flows_short (filtered_by e bank) is few =
         let below = flows_short e is.0 (omega (arith, few)) in
-        let leads = flow_leads way ahead e is.0 in
-        by_signals_short most filter_goes_by_signals (list_of (new way) e) (short_after most _ _ _ leads below) (signals_lead way ahead bank is.1) _ _
+        let leads = flow_leads way goes e is.0 in
+        by_signals_short most filter_goes_by_signals (list_of (new way) e) (short_after most _ _ _ leads below) (signals_lead way goes bank is.1) _ _
         (through_leads (filter_keeps_up (is_let_in (signals_of (old way) bank))) (list_of (old way) e) (list_flow way e) (list_of (new way) e) leads)
         (through_short most (filter_keeps_up (is_let_in (signals_of (old way) bank))) (list_of (old way) e) (list_flow way e) leads.lawful below)
     flows_short (mapped_by e bank) is few =
         let below = flows_short e is.0 (omega (arith, few)) in
-        let leads = flow_leads way ahead e is.0 in
-        by_signals_short most map_goes_by_signals (list_of (new way) e) (short_after most _ _ _ leads below) (signals_lead way ahead bank is.1) _ _
+        let leads = flow_leads way goes e is.0 in
+        by_signals_short most map_goes_by_signals (list_of (new way) e) (short_after most _ _ _ leads below) (signals_lead way goes bank is.1) _ _
         (map_leads (raised_by (signals_of (old way) bank)) (list_of (old way) e) (list_flow way e) (list_of (new way) e) leads)
         (map_short most (raised_by (signals_of (old way) bank)) (list_of (old way) e) (list_flow way e) leads.lawful below)
     flows_short (picked e bank) is few =
-        pick_short most (value_of (old way) e) (value_flow way e) (value_of (new way) e) (lists_of (old way) bank) (list_flows way bank) (lists_of (new way) bank) (signal_leads way ahead e is.0) (lists_short bank is.1 (omega (arith, few)))
+        pick_short most (value_of (old way) e) (value_flow way e) (value_of (new way) e) (lists_of (old way) bank) (list_flows way bank) (lists_of (new way) bank) (signal_leads way goes e is.0) (lists_short bank is.1 (omega (arith, few)))
     flows_short _ is few = absurd is
 
     lists_short : (bank : VecTrees L) → AreListsBuilt bank → vecs_longest cap bank ≤ most → EachGoes (PartShort most) (lists_of (old way) bank) (list_flows way bank) (lists_of (new way) bank)

@@ -11,10 +11,10 @@ use Rattle.sig_hist.specs.Sources.{AreDistinct, Source}
 use Rattle.sig_ops.specs.Enumerating.{Enumeration}
 use Rattle.sig_view.proofs.Leading.{BodyLeads, view_leads}
 use Rattle.sig_view.proofs.Still.{still_list}
-use Rattle.sig_view.proofs.Composing.{go_on_at}
+use Rattle.sig_view.proofs.Composing.{goes_ahead}
 use Rattle.sig_view.proofs.Numbering.{has_leaves as all_leaves, leaves_differ, numbered_built, view_short, within_caps}
 use Rattle.sig_view.proofs.Staying.{same_contents, source_of_leaf}
-use Rattle.sig_view.specs.Flow.{Way, flow, tags_after, with_tags}
+use Rattle.sig_view.specs.Flow.{GoesAhead, Way, flow, tags_after, with_tags}
 use Rattle.sig_view.specs.GoingOn.{HasLost, HasStepped, failed_now}
 use Rattle.sig_view.specs.Longest.{longest}
 use Rattle.sig_view.specs.Nodes.{ViewStands, op_tags, view_tree_of}
@@ -179,8 +179,11 @@ module _ (s t : PortState) (old new : ViewTask) (body : Body) (ready : IsReady s
       rw (stepped.same.first, leaves) (same_contents s t stepped.looked old.walk.first (length (positions_of old)) (positions_of old) ready.can.within)
 
   module _ (seen : Seen) (shows_it : IsShownBy (view_of old) (contents_of s old) seen) (same_tags : tags_of seen ≡ tags_at old) where
-    leads : BodyLeads (ways (sources_of t new) (positions_of old) (positions_of new)) (go_on_at (positions_of old) (positions_of new) stepped.walked.goes_on) (view_of old) seen.shown seen.next
-    leads = view_leads (ways (sources_of t new) (positions_of old) (positions_of new)) (go_on_at (positions_of old) (positions_of new) stepped.walked.goes_on) (view_of old) seen.shown seen.next
+    goes : (leaf : ℕ) → GoesAhead (ways (sources_of t new) (positions_of old) (positions_of new) leaf)
+    goes = goes_ahead t new.walk.first (length (positions_of new)) stepped.ready.can.sound (positions_of old) (positions_of new) stepped.walked.goes_on
+
+    leads : BodyLeads (ways (sources_of t new) (positions_of old) (positions_of new)) goes (view_of old) seen.shown seen.next
+    leads = view_leads (ways (sources_of t new) (positions_of old) (positions_of new)) goes (view_of old) seen.shown seen.next
         (numbered_built (view_tree old.view) ready.is_task.built) (record { kind = shows_it.kind; shows = rw before_is shows_it.shows; tags = shows_it.tags })
 
     body_is : body ≡ with_tags (tags_of seen) (flow (ways (sources_of t new) (positions_of old) (positions_of new)) (view_of old))
