@@ -6,13 +6,14 @@ ghost use Rattle.sig_view.specs.Flow.{flow};
 ghost use Rattle.sig_view.specs.Longest.{longest};
 ghost use Rattle.sig_view.specs.Nodes.{view_ops, view_tree_of, ViewStands};
 ghost use Rattle.sig_view.specs.SoundRows.{contents_at, ways};
-ghost use Rattle.sig_view.specs.Walking.{CanWalk, HasGone, HasLeaves, HasWalked, cap_at, map_entered, sources_in};
+ghost use Rattle.sig_view.specs.Walking.{CanWalk, HasGone, HasLeaves, HasWalked, cap_at, sources_in};
 
+use crate::maps::pairs;
 use crate::nodes::ViewNode;
 use crate::rows::Body;
 use crate::walk::Walk;
-use sig_diff::{MapDiffs, NoMemory};
-use sig_hist::{Entering, Port};
+use sig_diff::NoMemory;
+use sig_hist::Port;
 use std::alloc::Global;
 
 impl ViewNode {
@@ -38,17 +39,11 @@ impl ViewNode {
         match self {
             ViewNode::Signal(of) => Ok(Body::Signal(of.step(alloc, port, walk)?)),
             ViewNode::Vector(of) => Ok(Body::Vector(of.step(alloc, port, walk)?)),
-            ViewNode::Map(leaf) => Ok(Body::Map(map_entered(alloc, walk.enter(port, *leaf)?))),
+            ViewNode::Map(of) => Ok(Body::Map(of.step(alloc, port, walk)?)),
+            ViewNode::Entries(op, of) => {
+                let diffs = of.step(alloc, port, walk)?;
+                Ok(Body::Pairs(pairs(alloc, op, &diffs)?))
+            }
         }
-    }
-}
-
-/// The differences of a map among what enters.
-fn map_entered(alloc: Global, entering: Entering) -> MapDiffs<i64>
-    ensures { result ≡ map_entered entering }
-{
-    match entering {
-        Entering::Map(diffs) => diffs,
-        _ => MapDiffs::new(alloc),
     }
 }
