@@ -183,22 +183,22 @@ pub data ViewOps : Type 0 where
   signal : SignalOps → ViewOps
   list : ListOps → ViewOps
   map : MapTree ℕ → ViewOps
-  entries : List (ℤ × ℤ) → MapTree ℕ → ViewOps
+  pairs_by : List (ℤ × ℤ) → MapTree ℕ → ViewOps
 
 abbrev pub view_ops : ViewNode → ViewOps
 view_ops (node.Signal of) = signal (signal_ops of)
 view_ops (node.Vector of) = list (list_ops of)
 view_ops (node.Map of) = map (map_ops of)
-view_ops (node.Entries pairs of) = entries pairs (map_ops of)
+view_ops (node.Entries pairs of) = pairs_by pairs (map_ops of)
 
 abbrev pub view_tree_of : ViewOps → ViewTree ℕ
 view_tree_of (signal ops) = signal_view (signal_tree ops)
 view_tree_of (list ops) = vector_view (list_tree ops)
 view_tree_of (map m) = map_view m
-view_tree_of (entries pairs m) = entries_view m
+view_tree_of (pairs_by pairs m) = entries_view m
 
 abbrev pub ViewStands : (ℕ → Content) → ViewOps → Type 0
 ViewStands s (signal ops) = SignalStands s ops
 ViewStands s (list ops) = ListStands s ops
 ViewStands s (map m) = Unit {0}
-ViewStands s (entries pairs m) = pairs ≡ entries_of s m
+ViewStands s (pairs_by pairs m) = pairs ≡ entries_of s m

@@ -1,6 +1,8 @@
-ghost use Rattle.std.specs.Prelude.{◌≡◌, ◌≤◌, IfOk, OnOk};
+ghost use Rattle.std.specs.Prelude.{◌≡◌, ◌≤◌, length, IfOk, OnOk};
+ghost use Rattle.std.specs.List.{flat_map};
 ghost use Rattle.sig_diff.specs.Replaying.{MapAreLawful, MapStaysShort, map_replayed};
-ghost use Rattle.sig_maps.specs.Tables.{entries_gives, keys_gives, values_gives};
+ghost use Rattle.sig_expr.specs.Functions.{image};
+ghost use Rattle.sig_maps.specs.Tables.{entries_gives, keys_gives, map_value_gives, values_gives};
 ghost use Rattle.sig_view.specs.Flow.{of_map};
 ghost use Rattle.sig_view.specs.Nodes.{map_ops};
 ghost use Rattle.sig_view.specs.Steps.{MapGone, MapMayGo};
@@ -9,8 +11,9 @@ ghost use Rattle.sig_view.specs.Walking.{HasGone, map_entered};
 use crate::nodes::MapNode;
 use crate::walk::Walk;
 use sig_diff::{Diffs, MapDiffs, NoMemory};
+use sig_expr::Fun;
 use sig_hist::{Entering, Port};
-use sig_maps::{EntriesOp, KeysOp, ValuesOp};
+use sig_maps::{EntriesOp, KeysOp, MapValue, ValuesOp};
 use std::alloc::Global;
 
 impl MapNode {
@@ -31,14 +34,26 @@ impl MapNode {
             MapNode::Source(leaf) => Ok(map_entered(alloc, walk.enter(port, *leaf)?)),
             MapNode::Value(op, of) => {
                 let diffs = of.step(alloc, port, walk)?;
-                let mut given = MapDiffs::new(alloc);
-                'diffs: for diff in diffs.as_slice() {
-                    op.step(diff, &mut given)?;
-                }
-                Ok(given)
+                mapped(alloc, op, &diffs)
             }
         }
     }
+}
+
+/// What a function at the values of a map gives for differences of the map.
+fn mapped(
+    alloc: Global,
+    op: &mut MapValue<Fun>,
+    diffs: &MapDiffs<i64>,
+) -> Result<MapDiffs<i64>, NoMemory>
+    ensures given { IfOk result (λ given. given ≡ flat_map (map_value_gives (image op.old)) diffs.now) }
+    ensures state { op.new ≡ op.old }
+{
+    let mut given = MapDiffs::new(alloc);
+    'diffs: for diff in diffs.as_slice() {
+        op.step(diff, &mut given)?;
+    }
+    Ok(given)
 }
 
 /// The differences of a map among what enters.
@@ -54,6 +69,7 @@ fn map_entered(alloc: Global, entering: Entering) -> MapDiffs<i64>
 /// What the keys of a map give for differences that it takes.
 pub fn keys(alloc: Global, op: &mut KeysOp, diffs: &MapDiffs<i64>) -> Result<Diffs<i64>, NoMemory>
     requires lawful { MapAreLawful op.old diffs.now }
+    requires short_map { length op.old ≤ 65536 }
     requires short { MapStaysShort 65536 op.old diffs.now }
     ensures given { IfOk result (λ given. given ≡ of_map keys_gives op.old diffs.now) }
     ensures state { OnOk result (op.new ≡ map_replayed op.old diffs.now) }
@@ -72,6 +88,7 @@ pub fn values(
     diffs: &MapDiffs<i64>,
 ) -> Result<Diffs<i64>, NoMemory>
     requires lawful { MapAreLawful op.old diffs.now }
+    requires short_map { length op.old ≤ 65536 }
     requires short { MapStaysShort 65536 op.old diffs.now }
     ensures given { IfOk result (λ given. given ≡ of_map values_gives op.old diffs.now) }
     ensures state { OnOk result (op.new ≡ map_replayed op.old diffs.now) }
@@ -90,6 +107,7 @@ pub fn pairs(
     diffs: &MapDiffs<i64>,
 ) -> Result<Diffs<(i64, i64)>, NoMemory>
     requires lawful { MapAreLawful op.old diffs.now }
+    requires short_map { length op.old ≤ 65536 }
     requires short { MapStaysShort 65536 op.old diffs.now }
     ensures given { IfOk result (λ given. given ≡ of_map entries_gives op.old diffs.now) }
     ensures state { OnOk result (op.new ≡ map_replayed op.old diffs.now) }

@@ -1,26 +1,30 @@
 ghost use Rattle.std.specs.Prelude.{◌≡◌, ◌∷◌, [], ◌≤◌, ◌<◌, ◌+◌, Some, length, map, IfOk};
 ghost use Rattle.std.specs.List.{All};
 ghost use Rattle.sig_diff.specs.Contents.{number_in, list_in, entries_in};
+ghost use Rattle.sig_diff.specs.Entries.{values_mapped};
+ghost use Rattle.sig_expr.specs.Functions.{image};
 ghost use Rattle.sig_expr.specs.Leaves.{leaves, number_map, number_sig, number_sigs, number_vec, number_vecs, numbered, sig_leaves, sigs_leaves, vec_leaves, vecs_leaves};
 ghost use Rattle.sig_expr.specs.Shapes.{map_tree, sig_tree, sig_trees, vec_tree, vec_trees, view_tree};
+ghost use Rattle.sig_expr.specs.Trees.{mapped_values};
 ghost use Rattle.sig_view.specs.Built.{AreListsBuilt, AreSignalsBuilt, IsBuilt, IsListBuilt, IsSignalBuilt};
 ghost use Rattle.sig_view.specs.Fetching.{content_in};
 ghost use Rattle.sig_view.specs.Longest.{longest, sig_longest, sigs_longest, vec_longest, vecs_longest};
-ghost use Rattle.sig_view.specs.Nodes.{list_ops, lists_ops, map_ops, signal_ops, signals_ops, view_ops};
+ghost use Rattle.sig_view.specs.Nodes.{list_ops, lists_ops, map_ops, pairs_by, signal_ops, signals_ops, view_ops};
 ghost use Rattle.sig_view.specs.Starting.{AreListsStarted, AreSignalsStarted, IsListStarted, IsMapStarted, IsSignalStarted, IsViewStarted, leaf_length};
 
 use crate::nodes::{ListBank, ListNode, MapNode, SignalBank, SignalNode, ViewNode};
 use crate::rows::Body;
 use crate::starting_banks::{list_bank, signal_bank};
 use crate::starting_lists::{
-    list_filtered, list_filtered_by, list_mapped, list_mapped_by, list_picked, list_sorted,
+    list_filtered, list_filtered_by, list_keys, list_mapped, list_mapped_by, list_picked,
+    list_sorted, list_values,
 };
 use crate::starting_signals::{
-    signal_deduped, signal_len, signal_mapped, signal_sum, signal_switched,
+    signal_deduped, signal_key, signal_len, signal_mapped, signal_sum, signal_switched,
 };
 use sig_diff::{Content, Diffs, Entries, Items, Lists, MapDiff, MapDiffs, NoMemory, VecDiff};
-use sig_expr::{MapExpr, SigExpr, VecExpr, View, list_leaves, signal_leaves};
-use sig_maps::{EntriesOp, KeyOf, KeysOp, MapValue, ValuesOp};
+use sig_expr::{Fun, MapExpr, SigExpr, VecExpr, View, list_leaves, signal_leaves};
+use sig_maps::{EntriesOp, MapValue};
 use std::alloc::Global;
 
 // ---- what the leaves hold
@@ -75,11 +79,24 @@ fn map_node(
         MapExpr::Map(_) => Ok((MapNode::Source(leaf), entries_at(alloc, contents, leaf)?)),
         MapExpr::MapValue(fun, of) => {
             let (of, entries) = map_node(alloc, of.get(), contents, leaf)?;
-            let mut op = MapValue::new(alloc, *fun);
-            let mapped = op.start(&entries)?;
-            Ok((MapNode::Value(op, Box::new(alloc, of)?), mapped))
+            map_mapped(alloc, *fun, of, entries)
         }
     }
+}
+
+/// A map with a function at its values.
+fn map_mapped(
+    alloc: Global,
+    fun: Fun,
+    of: MapNode,
+    entries: Entries<i64>,
+) -> Result<(MapNode, Entries<i64>), NoMemory>
+    ensures ops { IfOk result (λ made. map_ops made.0 ≡ mapped_values fun (map_ops of)) }
+    ensures entries { IfOk result (λ made. made.1 ≡ values_mapped (image fun) entries) }
+{
+    let mut op = MapValue::new(alloc, fun);
+    let mapped = op.start(&entries)?;
+    Ok((MapNode::Value(op, Box::new(alloc, of)?), mapped))
 }
 
 // ---- lists
@@ -132,15 +149,11 @@ fn list_node(
         }
         VecExpr::Keys(of) => {
             let (of, entries) = map_node(alloc, of.get(), contents, leaf)?;
-            let mut op = KeysOp::new(alloc);
-            let keys = op.start(&entries)?;
-            Ok((ListNode::Keys(op, of), keys))
+            list_keys(alloc, of, entries)
         }
         VecExpr::Values(of) => {
             let (of, entries) = map_node(alloc, of.get(), contents, leaf)?;
-            let mut op = ValuesOp::new(alloc);
-            let values = op.start(&entries)?;
-            Ok((ListNode::Values(op, of), values))
+            list_values(alloc, of, entries)
         }
         _ => unreachable!(),
     }
@@ -213,11 +226,8 @@ fn signal_node(
         }
         SigExpr::Key(key, default, of) => {
             let (of, entries) = map_node(alloc, of.get(), contents, leaf)?;
-            let mut op = KeyOf::new(*key, *default);
-            let value = op.start(&entries);
-            Ok((SignalNode::Key(op, of), value))
+            Ok(signal_key(*key, *default, of, &entries))
         }
-        _ => unreachable!(),
     }
 }
 
@@ -277,18 +287,31 @@ pub fn view_node(
         }
         View::Entries(of) => {
             let (node, entries) = map_node(alloc, of, contents, 0)?;
-            let mut op = EntriesOp::new(alloc);
-            let values = op.start(&entries)?;
-            let mut diffs = Diffs::new(alloc);
-            diffs.push(VecDiff::Replace { values })?;
-            Ok((ViewNode::Entries(op, node), Body::Pairs(diffs)))
+            view_entries(alloc, node, entries)
         }
         _ => unreachable!(),
     }
 }
 
+/// The entries of a map as a list.
+fn view_entries(
+    alloc: Global,
+    of: MapNode,
+    entries: Entries<i64>,
+) -> Result<(ViewNode, Body), NoMemory>
+    ensures ops { IfOk result (λ made. view_ops made.0 ≡ pairs_by entries (map_ops of)) }
+    ensures body { IfOk result (λ made. made.1 ≡ Body.Pairs (VecDiff.Replace entries ∷ [])) }
+{
+    let mut op = EntriesOp::new(alloc);
+    let values = op.start(&entries)?;
+    Ok((
+        ViewNode::Entries(op, of),
+        Body::Pairs(all_items(alloc, values)?),
+    ))
+}
+
 /// The difference from the empty list to these items.
-fn all_items(alloc: Global, values: Items<i64>) -> Result<Diffs<i64>, NoMemory>
+fn all_items<T: Drop>(alloc: Global, values: Items<T>) -> Result<Diffs<T>, NoMemory>
     ensures { IfOk result (λ diffs. diffs ≡ VecDiff.Replace values ∷ []) }
 {
     let mut diffs = Diffs::new(alloc);
