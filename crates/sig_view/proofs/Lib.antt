@@ -20,6 +20,7 @@ pub mod Picking
 pub mod Along
 pub mod Numbering
 pub mod Trees
+pub mod MapTrees
 pub mod Shortening
 pub mod Values
 pub mod Leaving
