@@ -1,5 +1,6 @@
 pub mod Turning
 pub mod ByClass
+pub mod ByMap
 pub mod Leading
 pub mod Staying
 pub mod Later
