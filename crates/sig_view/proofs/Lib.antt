@@ -14,6 +14,7 @@ pub mod ByChooser
 pub mod ListArms
 pub mod Results
 pub mod SignalArms
+pub mod MapArms
 pub mod SwitchSteps
 pub mod PickSteps
 pub mod Standing
