@@ -111,11 +111,6 @@ within_put entries cap key value false false rising has is within = within
 within_put entries cap key value known room rising has is within =
     let size = length-put int_cmp int_cmp_total key value entries (subst T (sym rising) tt) ∙ ap (λ (test : Bool). cond test (length entries) (length entries + 1)) has in rw size (grind (arith, nat_tests))
 
--- a map's keys rise
-abbrev pub IsInOrder : Content → Type 0
-IsInOrder (Map entries) = IsRising entries
-IsInOrder content = Unit {0}
-
 -- an edit keeps a content within its cap
 pub within_cap : (content : Content) (cap : ℕ) (edit : Edit) → IsInOrder content → size_of content ≤ cap → size_of (edited content cap edit) ≤ cap
 within_cap (Cell x) cap (SetNeq y) in_order within = within_unless (Cell x) cap (Change.number y) (int_eq x y) within (λ _. within)

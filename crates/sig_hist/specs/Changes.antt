@@ -1,9 +1,10 @@
 -- What one edit changes of a source's content, and what it answers.
 use Rattle.std.specs.Prelude.{ℕ, ◌+◌, ◌-◌, ◌&&◌, ℤ, pos, ◌+ℤ◌, List, length, slice_index_or, Bool, true, false, not, nat_lt, if◌then◌else◌, Option, None, Some}
 use Rattle.std.specs.Option.{option_map_or}
-use Rattle.std.specs.Ordering.{int_eq}
+use Rattle.std.specs.FinMap.{is_sorted}
+use Rattle.std.specs.Ordering.{int_cmp, int_eq}
 use Rattle.sig_diff.specs.Differences.{is_lawful, applied}
-use Rattle.sig_diff.specs.Entries.{value_at, has_key}
+use Rattle.sig_diff.specs.Entries.{IsRising, value_at, has_key}
 use Rattle.sig_diff.specs.MapDifferences.{map_applied}
 use Rattle.sig_diff.specs.Numbers.{clamped}
 use Rattle.sig_diff.specs.declared.contents.Content.{Content}
@@ -69,6 +70,10 @@ put_reply (Some old) room n = Was old
 put_reply None true n = Fine
 put_reply None false n = Long n
 
+-- whether entries can be loaded: their keys rise, as those of every map do, and they are no more than the cap
+abbrev pub can_load : ℕ → List (ℤ × ℤ) → Bool
+can_load cap others = is_sorted int_cmp others && not (nat_lt cap (length others))
+
 -- ---- all kinds
 
 -- what the edit changes, or nothing where it has no effect or isn't of the content's kind
@@ -79,7 +84,7 @@ change_of (Cell x) cap (Add k) = Some (number (clamped (x +ℤ k)))
 change_of (Vector xs) cap (Edit.Vector diff) = vector_change xs cap diff
 change_of (Map entries) cap (Put key value) = put_change (has_key key entries) (nat_lt (length entries) cap) key value
 change_of (Map entries) cap (Delete key) = if has_key key entries then Some (map (changed.Remove key)) else None
-change_of (Map entries) cap (Load others) = if nat_lt cap (length others) then None else Some (map (changed.Replace others))
+change_of (Map entries) cap (Load others) = if can_load cap others then Some (map (changed.Replace others)) else None
 change_of (Map entries) cap Wipe = Some (map changed.Clear)
 change_of content cap edit = None
 
@@ -95,8 +100,13 @@ reply_to (Cell x) cap (Add k) = Was x
 reply_to (Vector xs) cap (Edit.Vector diff) = vector_reply xs cap diff
 reply_to (Map entries) cap (Put key value) = put_reply (value_at key entries) (nat_lt (length entries) cap) (length entries)
 reply_to (Map entries) cap (Delete key) = option_map_or Was (value_at key entries) Absent
-reply_to (Map entries) cap (Load others) = if nat_lt cap (length others) then Long (length entries) else Fine
+reply_to (Map entries) cap (Load others) = if can_load cap others then Fine else Long (length entries)
 reply_to content cap edit = Fine
+
+-- a map's keys rise
+abbrev pub IsInOrder : Content → Type 0
+IsInOrder (Map entries) = IsRising entries
+IsInOrder content = Unit {0}
 
 -- how many elements a content has
 abbrev pub size_of : Content → ℕ

@@ -2,7 +2,7 @@
 use Rattle.std.specs.Prelude.{◌≡◌, ℕ, ◌+◌, ◌<◌, ◌≤◌, ◌^◌, ◌==◌, List, [], ◌∷◌, ◌++◌, length, map, Bool, true, false, if◌then◌else◌}
 use Rattle.std.specs.List.{list_any, list_all}
 use Rattle.sig_diff.specs.declared.contents.Content.{Content}
-use Rattle.sig_hist.specs.Changes.{size_of}
+use Rattle.sig_hist.specs.Changes.{IsInOrder, size_of}
 use Rattle.sig_hist.specs.Histories.{state, IsLegal, own_entries, has_left}
 use Rattle.sig_hist.specs.declared.edits.Entry.{Entry}
 use Rattle.sig_hist.specs.declared.plans.Allowance.{Allowance}
@@ -33,6 +33,7 @@ room_of [] = 0
 room_of (allowance ∷ others) = allowance.edits + 1 + room_of others
 
 pub record IsPlan (plan : SourcePlan) : Type 0 where
+  pub in_order : IsInOrder plan.start
   pub within_cap : size_of plan.start ≤ plan.cap
   pub distinct : AreDistinct (writers_of plan.allow)
   pub room : room_of plan.allow < 2 ^ 32

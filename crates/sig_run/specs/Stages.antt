@@ -21,6 +21,7 @@ use Rattle.sig_script.specs.Built.{unbuilt}
 use Rattle.sig_script.specs.Leaving.{has_no_leaves}
 use Rattle.sig_script.specs.SelfContained.{IsSelfContained}
 use Rattle.sig_script.specs.Sizes.{size_fault}
+use Rattle.sig_script.specs.Starts.{StartsInOrder}
 use Rattle.sig_script.specs.declared.types.ViewDef.{ViewDef}
 use Rattle.sig_view.specs.Tasks.{expression_of}
 use Rattle.sig_script.specs.declared.types.Script.{Script}
@@ -31,6 +32,7 @@ played_of stage = record { done = stage.done.items; sources = stage.port.sources
 -- scripts that are played
 pub record IsPlayable (script : Script) : Type 0 where
   pub built : unbuilt script ≡ None
+  pub in_order : StartsInOrder script
   pub no_leaves : has_no_leaves script ≡ true
   pub self_contained : IsSelfContained script
   pub sized : size_fault script ≡ None

@@ -4,6 +4,7 @@ ghost use Rattle.sig_script.specs.Built.{unbuilt};
 ghost use Rattle.sig_script.specs.Leaving.{has_no_leaves};
 ghost use Rattle.sig_script.specs.SelfContained.{IsSelfContained};
 ghost use Rattle.sig_script.specs.Sizes.{size_fault};
+ghost use Rattle.sig_script.specs.Starts.{StartsInOrder};
 
 use crate::stage::Stage;
 use sig_diff::NoMemory;
@@ -16,6 +17,7 @@ use std::alloc::Global;
 #[tactic(auto, using(crate::proofs::Reported::reported_play))]
 pub fn play(alloc: Global, script: &Script) -> Result<Report, NoMemory>
     requires built { unbuilt script.now ≡ None }
+    requires in_order { StartsInOrder script.now }
     requires no_leaves { has_no_leaves script.now ≡ true }
     requires self_contained { IsSelfContained script.now }
     requires sized { size_fault script.now ≡ None }

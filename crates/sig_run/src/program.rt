@@ -6,6 +6,7 @@ ghost use Rattle.sig_script.specs.Built.{unbuilt};
 ghost use Rattle.sig_script.specs.Leaving.{has_no_leaves};
 ghost use Rattle.sig_script.specs.SelfContained.{IsSelfContained};
 ghost use Rattle.sig_script.specs.Sizes.{size_fault};
+ghost use Rattle.sig_script.specs.Starts.{StartsInOrder};
 ghost use Rattle.sig_run.specs.Program.{line_of, refusal_line, IsReportOf, IsReport, IsRefusal, IsAnswer, Answers, IsSilent, Answered};
 
 use crate::gate::Gate;
@@ -161,6 +162,7 @@ fn answer_to(alloc: Global, bytes: &[u8]) -> Result<Answer, NoMemory>
 #[tactic(auto, using(crate::proofs::Reported::reports_of_play))]
 fn played(alloc: Global, script: &Script) -> Result<Vec<u8>, NoMemory>
     requires built { unbuilt script.now ≡ None }
+    requires in_order { StartsInOrder script.now }
     requires no_leaves { has_no_leaves script.now ≡ true }
     requires self_contained { IsSelfContained script.now }
     requires sized { size_fault script.now ≡ None }

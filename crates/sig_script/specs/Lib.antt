@@ -21,4 +21,5 @@ pub mod SelfContained
 pub mod Shapes
 pub mod Sizes
 pub mod Spending
+pub mod Starts
 pub mod Walks

@@ -7,6 +7,7 @@ ghost use Rattle.sig_script.specs.Leaving.{has_no_leaves};
 ghost use Rattle.sig_script.specs.Names.{all_names};
 ghost use Rattle.sig_script.specs.Reading.{IsRefusal, Reads, limited_script, named_script, reading};
 ghost use Rattle.sig_script.specs.SelfContained.{IsSelfContained};
+ghost use Rattle.sig_script.specs.Starts.{StartsInOrder};
 
 use crate::checks::checked_script;
 use crate::document_building::script_of;
@@ -24,6 +25,7 @@ use std::alloc::Global;
 /// document. Want of memory may come at any point.
 pub fn read_script(alloc: Global, bytes: &[u8]) -> Result<Script, ScriptError>
     ensures ok { IfOk result (λ script. Reads bytes.now (Ok script)) }
+    ensures in_order { IfOk result StartsInOrder }
     ensures no_leaves { IfOk result (λ script. has_no_leaves script ≡ true) }
     ensures built { IfOk result (λ script. unbuilt script ≡ None) }
     ensures self_contained { IfOk result IsSelfContained }
@@ -39,6 +41,7 @@ pub fn read_script(alloc: Global, bytes: &[u8]) -> Result<Script, ScriptError>
 /// The script that a JSON value says, or the first refusal.
 fn reading(alloc: Global, document: &Value) -> Result<Script, ScriptError>
     ensures answer { Answers result (reading (view document.now)) }
+    ensures in_order { IfOk result StartsInOrder }
     ensures no_leaves { IfOk result (λ script. has_no_leaves script ≡ true) }
     ensures built { IfOk result (λ script. unbuilt script ≡ None) }
     ensures self_contained { IfOk result IsSelfContained }
@@ -52,6 +55,7 @@ fn reading(alloc: Global, document: &Value) -> Result<Script, ScriptError>
 
 fn named_script(alloc: Global, document: &Value) -> Result<Script, ScriptError>
     ensures answer { Answers result (named_script (members_in (view document.now))) }
+    ensures in_order { IfOk result StartsInOrder }
     ensures no_leaves { IfOk result (λ script. has_no_leaves script ≡ true) }
     ensures built { IfOk result (λ script. unbuilt script ≡ None) }
     ensures self_contained { IfOk result IsSelfContained }
@@ -70,6 +74,7 @@ fn limited_script(
 ) -> Result<Script, ScriptError>
     requires { names.now ≡ all_names (members_in (view document.now)) }
     ensures answer { Answers result (limited_script (members_in (view document.now))) }
+    ensures in_order { IfOk result StartsInOrder }
     ensures no_leaves { IfOk result (λ script. has_no_leaves script ≡ true) }
     ensures built { IfOk result (λ script. unbuilt script ≡ None) }
     ensures self_contained { IfOk result IsSelfContained }

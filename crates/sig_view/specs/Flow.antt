@@ -1,5 +1,5 @@
 -- What a view gives as its leaves go on along the histories of their sources.
-use Rattle.std.specs.Prelude.{ℕ, ◌+◌, ℤ, pos, List, [], ◌∷◌, ◌++◌, length, take, drop, Option, None, Some, option_map, option_and_then}
+use Rattle.std.specs.Prelude.{ℕ, ◌+◌, ◌≤◌, ℤ, pos, List, [], ◌∷◌, ◌++◌, length, take, drop, Option, None, Some, option_map, option_and_then}
 use Rattle.std.specs.Option.{option_map_or, option_or, unwrap_or}
 use Rattle.std.specs.List.{flat_map}
 use Rattle.sig_bank.specs.Banks.{BySignals, signals_next}
@@ -21,6 +21,7 @@ use Rattle.sig_expr.specs.Shows.{shows}
 use Rattle.sig_expr.specs.Trees.{MapTree, map_source, mapped_values, SigTree, cell, mapped_signal, deduped, switched, length_of, total_of, at_key, VecTree, vector, mapped, filtered, filtered_by, mapped_by, sorted, picked, keys_in, values_in, SigTrees, no_signals, more_signals, VecTrees, no_lists, more_lists, ViewTree, signal_view, vector_view, map_view, entries_view, tagged_view}
 use Rattle.sig_expr.specs.declared.shown.Shown.{Shown}
 use Rattle.sig_expr.specs.declared.shown.Shown.TheVariants as shown
+use Rattle.sig_hist.specs.Changes.{IsInOrder}
 use Rattle.sig_hist.specs.Entering.{list_entering, map_entering, number_entering}
 use Rattle.sig_hist.specs.Histories.{state}
 use Rattle.sig_hist.specs.Sources.{Source}
@@ -50,6 +51,11 @@ before way = state_at way.source way.from
 
 abbrev pub behind : Way → Content
 behind way = state_at way.source way.to
+
+-- a leaf goes ahead, along the history of a source whose map, if it is one, starts in order
+pub record GoesAhead (way : Way) : Type 0 where
+  pub ahead : way.from ≤ way.to
+  pub in_order : IsInOrder way.source.plan.start
 
 -- what an operator on a list gives for differences of it, one after another
 abbrev pub through : {T U : Type 0} → (List T → VecDiff T → List (VecDiff U)) → List T → List (VecDiff T) → List (VecDiff U)
