@@ -7,7 +7,7 @@ use Rattle.std.proofs.lemmas.List.Edits.{length-insert, length-remove}
 use Rattle.std.proofs.lemmas.List.Elements.{filter-append}
 use Rattle.std.proofs.lemmas.List.Sums.{length-filter, count_by-le-length}
 use Rattle.std.proofs.lemmas.Cmp.{int_cmp_total}
-use Rattle.std.specs.FinMap.Entries.{length-put}
+use Rattle.std.specs.FinMap.Entries.{is_sorted, length-put}
 use Rattle.std.specs.Option.{option_map_or}
 use Rattle.std.specs.Ordering.{int_eq}
 use Rattle.sig_diff.specs.Differences.{is_lawful, applied, inserted}
@@ -17,7 +17,7 @@ use Rattle.sig_diff.specs.declared.contents.Content.TheVariants.{Cell, Vector, M
 use Rattle.sig_diff.specs.declared.differences.VecDiff.{VecDiff}
 use Rattle.sig_diff.specs.declared.differences.VecDiff.TheVariants.{Replace, InsertAt, UpdateAt, RemoveAt, Move, Push, Pop, Clear}
 use Rattle.sig_diff.specs.declared.map_differences.MapDiff.{MapDiff}
-use Rattle.sig_hist.specs.Changes.{Change, after, is_long, put_change, edited, reply_to, size_of}
+use Rattle.sig_hist.specs.Changes.{Change, IsInOrder, after, can_load, is_long, put_change, edited, reply_to, size_of}
 use Rattle.sig_hist.specs.Histories.{state, IsLegal, own_entries, is_leave, ends_with_leave, has_left}
 use Rattle.sig_hist.specs.Sources.{Source, entered, IsIn}
 use Rattle.sig_hist.specs.declared.edits.Edit.{Edit}
@@ -120,6 +120,7 @@ within_cap (Map entries) cap (Put key value) in_order within = within_put entrie
 within_cap (Map entries) cap (Delete key) in_order within =
     let others : ℤ × ℤ → Bool = λ entry. not (int_eq key entry.0) in
     within_if (Map entries) cap (Change.map (MapDiff.Remove key)) (has_key key entries) within (λ _. omega (arith, length-filter others entries, count_by-le-length others entries))
-within_cap (Map entries) cap (Load others) in_order within = within_unless (Map entries) cap (Change.map (MapDiff.Replace others)) (nat_lt cap (length others)) within (λ short. grind (arith, nat_tests))
+within_cap (Map entries) cap (Load others) in_order within =
+    within_if (Map entries) cap (Change.map (MapDiff.Replace others)) (can_load cap others) within (λ made. let both = and_parts (is_sorted int_cmp others) (not (nat_lt cap (length others))) made in grind (arith, nat_tests))
 within_cap (Map entries) cap Wipe in_order within = omega arith
 within_cap content cap edit in_order within = within

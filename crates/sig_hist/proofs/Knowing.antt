@@ -129,7 +129,7 @@ anywhere P (x ∷ xs) (suc k) default all past = anywhere P xs k default (All-ta
 
 no_source_is : IsSource no_source
 no_source_is = record {
-  plan = record { within_cap = omega arith; distinct = tt; room = omega arith };
+  plan = record { in_order = tt; within_cap = omega arith; distinct = tt; room = omega arith };
   within_cap = omega arith;
   legal = tt;
   by_writers = refl;

@@ -1,4 +1,5 @@
 pub mod Counts
 pub mod Entries
+pub mod InOrder
 pub mod Knowing
 pub mod Telling

@@ -12,7 +12,7 @@ use Rattle.sig_diff.specs.declared.contents.Kind.{Kind}
 use Rattle.sig_diff.specs.declared.differences.VecDiff.{VecDiff}
 use Rattle.sig_diff.specs.declared.differences.VecDiff.TheVariants.{UpdateAt, RemoveAt, Pop}
 use Rattle.sig_diff.specs.declared.map_differences.MapDiff.{MapDiff}
-use Rattle.sig_hist.specs.Changes.{Change, after, answer_to, change_of, edited, is_long, put_change, put_reply, reply_to}
+use Rattle.sig_hist.specs.Changes.{Change, after, answer_to, can_load, change_of, edited, is_long, put_change, put_reply, reply_to}
 use Rattle.sig_hist.specs.Entering.{all_entering, as_list, as_map, as_number, entering_from, is_far, latest, value_entering}
 use Rattle.sig_hist.specs.Histories.{changes_by, state, IsLegal}
 use Rattle.sig_hist.specs.Sources.{Source, content_of}
@@ -81,14 +81,14 @@ delete_told : (found : Option ℤ) (key : ℤ) → option_and_then as_map (cond 
 delete_told (Some old) key = refl
 delete_told None key = refl
 
-load_told : (long : Bool) (others : List (ℤ × ℤ)) (n : ℕ) → option_and_then as_map (cond long None (Some (Change.map (MapDiff.Replace others)))) ≡ cond (took_effect (cond long (Long n) Fine)) (Some (MapDiff.Replace others)) None
+load_told : (fits : Bool) (others : List (ℤ × ℤ)) (n : ℕ) → option_and_then as_map (cond fits (Some (Change.map (MapDiff.Replace others))) None) ≡ cond (took_effect (cond fits Fine (Long n))) (Some (MapDiff.Replace others)) None
 load_told true others n = refl
 load_told false others n = refl
 
 map_of : (content : Content) (cap : ℕ) (edit : Edit) → kind_of content ≡ Kind.Map → option_and_then as_map (change_of content cap edit) ≡ told_map edit (reply_to content cap edit)
 map_of (Map entries) cap (Put key value) is = put_told (value_at key entries) (nat_lt (length entries) cap) key value (length entries)
 map_of (Map entries) cap (Delete key) is = delete_told (value_at key entries) key
-map_of (Map entries) cap (Load others) is = load_told (nat_lt cap (length others)) others (length entries)
+map_of (Map entries) cap (Load others) is = load_told (can_load cap others) others (length entries)
 map_of (Map entries) cap edit is = refl
 map_of content cap edit is = cc
 

@@ -1,6 +1,6 @@
 ghost use Rattle.std.specs.Prelude.{◌≡◌, ◌≤◌, ◌<◌, ◌^◌, length, IfOk, OnOk, OnErr};
 ghost use Rattle.sig_diff.specs.declared.contents.Content.TheVariants.{Cell, Vector, Map};
-ghost use Rattle.sig_hist.specs.Changes.{edited, reply_to, size_of, is_long, vector_reply};
+ghost use Rattle.sig_hist.specs.Changes.{can_load, edited, reply_to, size_of, is_long, vector_reply};
 
 use crate::edits::{Edit, Reply};
 use sig_diff::{Content, Entries, Items, NoMemory, VecDiff, apply, is_lawful};
@@ -99,7 +99,7 @@ fn edit_map(entries: &mut Entries<i64>, cap: u32, edit: &Edit) -> Result<Reply, 
     match edit {
         Edit::Put(key, value) => put(entries, cap, *key, *value),
         Edit::Delete(key) => Ok(delete(entries, *key)),
-        Edit::Load(others) if others.len() > cap as usize => Ok(Reply::Long { len }),
+        Edit::Load(others) if !can_load(others, cap) => Ok(Reply::Long { len }),
         Edit::Load(others) => {
             entries.assign(others)?;
             Ok(Reply::Fine)
@@ -110,6 +110,13 @@ fn edit_map(entries: &mut Entries<i64>, cap: u32, edit: &Edit) -> Result<Reply, 
         }
         _ => Ok(Reply::Fine),
     }
+}
+
+/// Whether entries can be loaded. Their slice's contract says that the keys rise.
+fn can_load(others: &Entries<i64>, cap: u32) -> bool
+    ensures { result ≡ can_load cap others.now }
+{
+    others.as_slice().len() <= cap as usize
 }
 
 /// Gives a key its value, where the map has it or has room.
