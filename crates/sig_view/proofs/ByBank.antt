@@ -28,7 +28,7 @@ use Rattle.sig_view.proofs.Shortening.{goes_short, same_caps, short_after}
 use Rattle.sig_view.proofs.Standing.{list_stands, signals_stand}
 use Rattle.sig_view.proofs.Turning.{Leads}
 use Rattle.sig_view.specs.Choices.{with_items}
-use Rattle.sig_view.specs.Flow.{after_signals, by_signals, list_flow, through, value_flows}
+use Rattle.sig_view.specs.Flow.{GoesAhead, after_signals, by_signals, list_flow, through, value_flows}
 use Rattle.sig_view.specs.Longest.{sigs_longest, vec_longest}
 use Rattle.sig_view.specs.Nodes.{ListOps, ListStands, SignalsOps, SignalsStand, list_tree, signal_trees}
 use Rattle.sig_view.specs.Steps.{ListGone, SignalsGone}
@@ -106,7 +106,7 @@ module _ (s t : PortState) (old mid : Progress) (can : CanWalk s old) (of after 
     values_are = second.flow ∙ same_value_flows _ _ (signal_trees bank) (second_way s t old mid can first.gone own rest _ (vec_among came_to (list_tree of)) has distinct first.walked u new second.gone _ (sigs_among ends_at (signal_trees bank)) second.walked)
 
     module _ (op : BySignals) (items : op.items ≡ list_of (contents_at (sources_in s old) old.positions) (list_tree of)) (signals : op.signals ≡ signals_of (contents_at (sources_in s old) old.positions) (signal_trees bank)) where
-      way_back : (leaf : ℕ) → (ways (sources_in u new) old.positions new.positions leaf).from ≤ (ways (sources_in u new) old.positions new.positions leaf).to
+      way_back : (leaf : ℕ) → GoesAhead (ways (sources_in u new) old.positions new.positions leaf)
       way_back = never_back s u old new can both_gone both_walked.goes_on
 
       held : contents_at (sources_in u new) old.positions ≡ contents_at (sources_in s old) old.positions

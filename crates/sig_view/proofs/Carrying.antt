@@ -1,5 +1,5 @@
 -- What a list gives on the way that a walk took its leaf leads from what it was to what it is.
-use Rattle.std.proofs.Common.{◌≡◌, ℕ, zero, suc, ◌≤◌, ℤ, List, [], ◌∷◌, length, slice_index, refl, ap, arith}
+use Rattle.std.proofs.Common.{◌≡◌, ℕ, ◌≤◌, ℤ, List, length, refl, ap}
 use Rattle.sig_diff.specs.declared.differences.VecDiff.{VecDiff}
 use Rattle.sig_expr.specs.Scratch.{list_of}
 use Rattle.sig_diff.specs.Replaying.{AreLawful, replayed}
@@ -9,21 +9,15 @@ use Rattle.sig_expr.specs.declared.functions.Pred.{Pred}
 use Rattle.sig_ops.specs.Filters.{Filter}
 use Rattle.sig_ops.specs.Tables.{filter_gives}
 use Rattle.sig_hist.specs.Ports.{PortState}
+use Rattle.sig_view.proofs.Composing.{goes_ahead}
 use Rattle.sig_view.proofs.Leading.{flow_leads}
 use Rattle.sig_view.proofs.Staying.{same_contents}
 use Rattle.sig_view.proofs.Turning.{Leads}
 use Rattle.sig_view.specs.Built.{AreListsBuilt, AreSignalsBuilt, IsListBuilt, IsSignalBuilt}
-use Rattle.sig_view.specs.Flow.{list_flow, through}
+use Rattle.sig_view.specs.Flow.{GoesAhead, list_flow, through}
 use Rattle.sig_view.specs.Nodes.{ListOps, source, images, kept, ordered, let_in, raised, pick_of, keys_by, values_by, SignalOps, number, image_of, without_repeats, switch_of, count_of, sum_of, value_at_key, SignalsOps, no_signal, one_signal, ListsOps, no_list, one_list, ListStands, list_tree, list_trees, signal_tree, signal_trees}
 use Rattle.sig_view.specs.SoundRows.{GoOn, contents_at, ways}
 use Rattle.sig_view.specs.Walking.{CanWalk, HasGone, Progress, seen_sources, sources_in}
-
-ahead : (from to : List ℕ) → GoOn from to → (leaf : ℕ) → slice_index from leaf ≤ slice_index to leaf
-ahead [] [] goes leaf = omega arith
-ahead (old ∷ from) (new ∷ to) goes zero = goes.0
-ahead (old ∷ from) (new ∷ to) goes (suc leaf) = ahead from to goes.1 leaf
-ahead [] (new ∷ to) goes leaf = absurd goes
-ahead (old ∷ from) [] goes leaf = absurd goes
 
 mutual
   pub list_is_built : (ops : ListOps) → IsListBuilt (list_tree ops)
@@ -64,8 +58,8 @@ module _ (s t : PortState) (old new : Progress) (can : CanWalk s old) (gone : Ha
   held_before = rw same_sources (same_contents s t gone.looked old.first (length old.positions) old.positions can.within)
 
   module _ (goes_on : GoOn old.positions new.positions) where
-    pub never_back : (leaf : ℕ) → slice_index old.positions leaf ≤ slice_index new.positions leaf
-    never_back = ahead old.positions new.positions goes_on
+    pub never_back : (leaf : ℕ) → GoesAhead (ways (sources_in t new) old.positions new.positions leaf)
+    never_back = goes_ahead t new.first (length new.positions) gone.can.sound old.positions new.positions goes_on
 
     pub carries : (ops : ListOps) → Leads (list_of (contents_at (sources_in s old) old.positions) (list_tree ops)) (list_flow (ways (sources_in t new) old.positions new.positions) (list_tree ops)) (list_of (contents_at (sources_in t new) new.positions) (list_tree ops))
     carries ops = rw (← held_before) (flow_leads (ways (sources_in t new) old.positions new.positions) never_back (list_tree ops) (list_is_built ops))

@@ -2,14 +2,15 @@
 use Rattle.std.proofs.Common.{◌≡◌, ◌≢◌, ◌∙◌, ℕ, zero, suc, ◌+◌, ◌≤◌, ◌==◌, List, [], ◌∷◌, ◌++◌, slice_index, Bool, true, false, ◌||◌, Option, None, Some, refl, sym, ap, arith, le_trans}
 use Rattle.std.proofs.Math.Seq.{drop-length}
 use Rattle.std.specs.List.{list_any}
-use Rattle.sig_hist.specs.Ports.{PortState}
+use Rattle.sig_hist.specs.Ports.{IsSoundPort, PortState}
 use Rattle.sig_hist.specs.Sources.{is_among}
 use Rattle.sig_hist.specs.declared.ports.Met.{Met}
 use Rattle.sig_view.proofs.Arriving.{go_on_same, none_more}
-use Rattle.sig_view.proofs.Staying.{looked_again, met_on, seen_no_less}
+use Rattle.sig_view.proofs.Staying.{looked_again, met_on, seen_in_order, seen_no_less}
 use Rattle.sig_view.proofs.Trying.{looked_same}
-use Rattle.sig_view.specs.SoundRows.{GoOn}
-use Rattle.sig_view.specs.Walking.{CanWalk, HasGone, HasSettled, HasWalked, IsCaughtUp, IsFresh, Progress, first_held, met_since, was_held}
+use Rattle.sig_view.specs.Flow.{GoesAhead}
+use Rattle.sig_view.specs.SoundRows.{GoOn, ways}
+use Rattle.sig_view.specs.Walking.{CanWalk, HasGone, HasSettled, HasWalked, IsCaughtUp, IsFresh, Progress, first_held, met_since, seen_sources, was_held}
 
 -- ---- positions
 
@@ -19,6 +20,10 @@ go_on_at (old ∷ from) (new ∷ to) goes zero = goes.0
 go_on_at (old ∷ from) (new ∷ to) goes (suc leaf) = go_on_at from to goes.1 leaf
 go_on_at [] (new ∷ to) goes leaf = absurd goes
 go_on_at (old ∷ from) [] goes leaf = absurd goes
+
+-- the leaves of a sound port go ahead
+pub goes_ahead : (s : PortState) (first count : ℕ) → IsSoundPort s → (from to : List ℕ) → GoOn from to → (leaf : ℕ) → GoesAhead (ways (seen_sources s first count) from to leaf)
+goes_ahead s first count sound from to goes leaf = record { ahead = go_on_at from to goes leaf; in_order = seen_in_order s sound first count leaf }
 
 pub go_on_further : (from between to : List ℕ) → GoOn from between → GoOn between to → GoOn from to
 go_on_further [] [] [] first second = tt

@@ -1,5 +1,5 @@
 -- What a view gives as its leaves go on leads from what it shows before to what it shows after.
-use Rattle.std.proofs.Common.{◌≡◌, ◌≢◌, ◌∙◌, ℕ, ◌≤◌, ℤ, pos, List, [], ◌∷◌, ◌++◌, length, take, filter_map, cond, Bool, true, false, not, Option, None, Some, option_map, option_and_then, refl, sym, ap}
+use Rattle.std.proofs.Common.{◌≡◌, ◌≢◌, ◌∙◌, ℕ, ℤ, pos, List, [], ◌∷◌, ◌++◌, length, take, filter_map, cond, Bool, true, false, not, Option, None, Some, option_map, option_and_then, refl, sym, ap}
 use Rattle.std.specs.Option.{option_map_or, option_to_list, unwrap_or}
 use Rattle.std.specs.Ordering.{int_eq}
 use Rattle.std.proofs.lemmas.Bool.{and_parts}

@@ -23,6 +23,7 @@ pub mod Along
 pub mod Numbering
 pub mod Trees
 pub mod MapTrees
+pub mod MapShortening
 pub mod Shortening
 pub mod Values
 pub mod Leaving

@@ -1,5 +1,5 @@
 -- A step of a map's lists, and of a value at one of its keys: what they need, and what is left.
-use Rattle.std.proofs.Common.{◌≡◌, ◌∙◌, ℕ, ◌≤◌, ℤ, List, length, Option, All, refl, sym, ap}
+use Rattle.std.proofs.Common.{◌≡◌, ◌∙◌, ℕ, ◌≤◌, ℤ, List, length, slice_index, Option, refl, ap}
 use Rattle.std.specs.Option.{unwrap_or}
 use Rattle.sig_diff.specs.Entries.{IsRising, value_at}
 use Rattle.sig_diff.specs.Replaying.{MapAreLawful, MapStaysShort, map_replayed}
@@ -13,7 +13,10 @@ use Rattle.sig_maps.specs.Keys.{KeyView, key_shows}
 use Rattle.sig_maps.specs.Tables.{entries_gives, keys_gives, values_gives}
 use Rattle.sig_ops.specs.Signals.{given}
 use Rattle.sig_view.proofs.ByMap.{MapGoesShort, MapLeads}
-use Rattle.sig_view.proofs.Carrying.{held_before}
+use Rattle.sig_view.proofs.Carrying.{held_before, never_back}
+use Rattle.sig_view.proofs.Leading.{map_flow_leads}
+use Rattle.sig_view.proofs.MapShortening.{map_flow_short, seen_map_short}
+use Rattle.sig_view.proofs.Shortening.{same_caps}
 use Rattle.sig_view.specs.Flow.{map_flow, of_map}
 use Rattle.sig_view.specs.Nodes.{keys_by, value_at_key, values_by}
 use Rattle.sig_view.specs.SoundRows.{contents_at, ways}
@@ -44,7 +47,16 @@ pub record MapGoes (entries : List (ℤ × ℤ)) (diffs : List (MapDiff ℤ)) (a
 module _ (s t : PortState) (old new : Progress) (m : MapTree ℕ) (diffs : List (MapDiff ℤ)) (below : MapGone s t old new m diffs) (entries : List (ℤ × ℤ)) where
   pub map_goes : CanWalk s old → map_bound (cap_at (sources_in s old)) m ≤ 65536 → entries ≡ entries_of (contents_at (sources_in s old) old.positions) m →
       MapGoes entries diffs (entries_of (contents_at (sources_in t new) new.positions) m)
-  map_goes can few stood = ?
+  map_goes can few stood =
+      let ahead = never_back s t old new can below.gone below.walked.goes_on in
+      let held = held_before s t old new can below.gone in
+      let leads : MapLeads entries diffs (entries_of (contents_at (sources_in t new) new.positions) m) =
+      rw (stood, below.flow, ← held) (map_flow_leads (ways (sources_in t new) old.positions new.positions) ahead m) in
+      let caps = same_caps s t old new can below.gone in
+      let each = λ (leaf : ℕ). seen_map_short t below.gone.can.sound new.first (length new.positions) leaf (slice_index old.positions leaf) in
+      let short : MapGoesShort 65536 entries diffs =
+      rw (stood, below.flow, ← held) (map_flow_short (ways (sources_in t new) old.positions new.positions) ahead each 65536 m (rw caps few)) in
+      record { lawful = leads.lawful; few = short.before; short = short.stays; replay = leads.replay }
 
   pub keys_go : ListMayGo s old (keys_by entries m) → MapGoes entries diffs (entries_of (contents_at (sources_in t new) new.positions) m)
   keys_go may = map_goes may.can may.short may.stands

@@ -1,11 +1,12 @@
 -- What a port has seen stays: after looks and fetches the leaves stand where they stood, and hold what they held.
 use Rattle.std.proofs.Common.{◌≡◌, ◌∙◌, ℕ, zero, suc, ◌+◌, ◌<◌, ◌≤◌, List, [], ◌∷◌, ◌++◌, length, take, drop, get_or, refl, sym, ap, arith, le_trans}
 use Rattle.std.proofs.lemmas.List.{take-take, take-append-drop, drop-append-le, length-take}
+use Rattle.sig_hist.specs.Changes.{IsInOrder}
 use Rattle.sig_hist.specs.OneThread.{no_source}
-use Rattle.sig_hist.specs.Ports.{GoesOn, PortState}
+use Rattle.sig_hist.specs.Ports.{GoesOn, IsSoundPort, PortState}
 use Rattle.sig_hist.specs.declared.edits.Entry.{Entry}
 use Rattle.sig_view.specs.Flow.{state_at}
-use Rattle.sig_view.specs.SoundRows.{AreWithin, contents_at}
+use Rattle.sig_view.specs.SoundRows.{AreWithin, contents_at, leaf_source}
 use Rattle.sig_view.specs.Walking.{HasLooked, met_since, seen_source, seen_sources}
 
 -- ---- lists that go on
@@ -42,6 +43,12 @@ pub source_of_leaf : (s : PortState) (first count leaf : ℕ) → leaf < count �
 source_of_leaf s first zero leaf below = absurd (omega (arith, below))
 source_of_leaf s first (suc count) zero below = ap (seen_source s) (omega arith)
 source_of_leaf s first (suc count) (suc leaf) below = source_of_leaf s (first + 1) count leaf (omega (arith, below)) ∙ ap (seen_source s) (omega arith)
+
+-- the map that a sound port's source starts with, if it is one, is in order
+pub seen_in_order : (s : PortState) → IsSoundPort s → (first count leaf : ℕ) → IsInOrder (leaf_source (seen_sources s first count) leaf).plan.start
+seen_in_order s sound first zero leaf = tt
+seen_in_order s sound first (suc count) zero = (sound (s.source first)).of_plan.in_order
+seen_in_order s sound first (suc count) (suc leaf) = seen_in_order s sound (first + 1) count leaf
 
 module _ (s t : PortState) (looked : HasLooked s t) where
   pub same_plan : (leaf : ℕ) → (seen_source t leaf).plan ≡ (seen_source s leaf).plan

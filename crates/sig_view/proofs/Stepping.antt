@@ -10,7 +10,7 @@ use Rattle.sig_expr.specs.declared.shown.Shown.{Shown}
 use Rattle.sig_hist.specs.Ports.{PortState}
 use Rattle.sig_hist.specs.Sources.{AreDistinct, Source}
 use Rattle.sig_view.proofs.Leading.{view_leads}
-use Rattle.sig_view.proofs.Composing.{go_on_at}
+use Rattle.sig_view.proofs.Composing.{goes_ahead}
 use Rattle.sig_view.proofs.Numbering.{has_leaves as all_leaves, leaves_differ, numbered_built, view_short, within_caps}
 use Rattle.sig_view.proofs.Staying.{same_contents, source_of_leaf}
 use Rattle.sig_view.specs.Flow.{flow}
@@ -165,7 +165,7 @@ module _ (s t : PortState) (old new : ViewTask) (body : Body) (ready : IsReady s
   pub next_row : (shown : Shown) → new.walk.moved ≡ true → IsShownBy (view_of old) (contents_of s old) shown → IsNextRow (view_of old) (sources_of t new) (positions_of old) shown (positions_of new) body
   next_row shown moved shows_it =
       let walked = stepped.walked in
-      let leads = view_leads (ways (sources_of t new) (positions_of old) (positions_of new)) (go_on_at (positions_of old) (positions_of new) walked.goes_on) (view_of old) shown
+      let leads = view_leads (ways (sources_of t new) (positions_of old) (positions_of new)) (goes_ahead t new.walk.first (length (positions_of new)) stepped.ready.can.sound (positions_of old) (positions_of new) walked.goes_on) (view_of old) shown
       (numbered_built (view_tree old.view) ready.is_task.built) (rw before_is shows_it) in
       record {
         within = stepped.ready.can.within;
