@@ -1,4 +1,4 @@
--- A step of a map's lists, and of a value at one of its keys: what they need, and what is left.
+-- A step of a map's lists, and of the value at one of its keys: what it needs, and what is left.
 use Rattle.std.proofs.Common.{◌≡◌, ◌∙◌, ℕ, ◌≤◌, ℤ, List, length, slice_index, Option, refl, ap}
 use Rattle.std.specs.Option.{unwrap_or}
 use Rattle.sig_diff.specs.Entries.{IsRising, value_at}
@@ -20,22 +20,8 @@ use Rattle.sig_view.proofs.Shortening.{same_caps}
 use Rattle.sig_view.specs.Flow.{map_flow, of_map}
 use Rattle.sig_view.specs.Nodes.{keys_by, value_at_key, values_by}
 use Rattle.sig_view.specs.SoundRows.{contents_at, ways}
-use Rattle.sig_view.specs.Steps.{ListGone, ListMayGo, MapGone, MapMayGo, SignalGone, SignalMayGo}
-use Rattle.sig_view.specs.Walking.{CanWalk, HasGone, HasLeaves, Progress, cap_at, sources_in}
-
--- ---- before
-
-module _ (s : PortState) (walk : Progress) (m : MapTree ℕ) where
-  pub keys_may_go : (entries : List (ℤ × ℤ)) → ListMayGo s walk (keys_by entries m) → MapMayGo s walk m
-  keys_may_go entries may = record { can = may.can; has = may.has; short = may.short }
-
-  pub values_may_go : (entries : List (ℤ × ℤ)) → ListMayGo s walk (values_by entries m) → MapMayGo s walk m
-  values_may_go entries may = record { can = may.can; has = may.has; short = may.short }
-
-  pub key_may_go : (key : KeyView) → SignalMayGo s walk (value_at_key key m) → MapMayGo s walk m
-  key_may_go key may = record { can = may.can; has = may.has; short = may.short }
-
--- ---- after
+use Rattle.sig_view.specs.Steps.{ListGone, ListMayGo, MapGone, SignalGone, SignalMayGo}
+use Rattle.sig_view.specs.Walking.{CanWalk, Progress, cap_at, sources_in}
 
 -- what a list of the map needs for its step, and what the map's entries are then
 pub record MapGoes (entries : List (ℤ × ℤ)) (diffs : List (MapDiff ℤ)) (after : List (ℤ × ℤ)) : Type 0 where

@@ -30,3 +30,14 @@ ops_of_values entries of = search (rules, ListNode.the_lemmas)
 
 pub ops_of_key : (key : KeyView) (of : MapNode) → signal_ops (SignalNode.Key key of) ≡ value_at_key key (map_ops of)
 ops_of_key key of = search (rules, SignalNode.the_lemmas)
+
+-- ---- by the map below
+
+pub keys_ops : (node : ListNode) (entries : List (ℤ × ℤ)) (of : MapNode) → node ≡ ListNode.Keys entries of → list_ops node ≡ keys_by entries (map_ops of)
+keys_ops node entries of is = rw is (ops_of_keys entries of)
+
+pub values_ops : (node : ListNode) (entries : List (ℤ × ℤ)) (of : MapNode) → node ≡ ListNode.Values entries of → list_ops node ≡ values_by entries (map_ops of)
+values_ops node entries of is = rw is (ops_of_values entries of)
+
+pub key_ops : (node : SignalNode) (key : KeyView) (of : MapNode) → node ≡ SignalNode.Key key of → signal_ops node ≡ value_at_key key (map_ops of)
+key_ops node key of is = rw is (ops_of_key key of)
