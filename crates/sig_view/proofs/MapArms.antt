@@ -51,7 +51,7 @@ module _ (s t : PortState) (old new : Progress) (m : MapTree ℕ) (diffs : List 
   values_go may = map_goes may.can may.short may.stands
 
   -- what the map's list gives is what it gives on the way
-  of_map_flow : {U : Type 0} (gives : List (ℤ × ℤ) → MapDiff ℤ → List (VecDiff U)) → CanWalk s old → entries ≡ entries_of (contents_at (sources_in s old) old.positions) m →
+  pub of_map_flow : {U : Type 0} (gives : List (ℤ × ℤ) → MapDiff ℤ → List (VecDiff U)) → CanWalk s old → entries ≡ entries_of (contents_at (sources_in s old) old.positions) m →
       of_map gives entries diffs ≡ of_map gives (entries_of (contents_at (sources_in t new) old.positions) m) (map_flow (ways (sources_in t new) old.positions new.positions) m)
   of_map_flow gives can stood = rw (stood, below.flow, ← held_before s t old new can below.gone) refl
 
