@@ -7,9 +7,9 @@ use Rattle.sig_diff.specs.Contents.{kind_of, list_in}
 use Rattle.sig_diff.specs.declared.contents.Content.{Content}
 use Rattle.sig_diff.specs.declared.contents.Content.TheVariants.{Cell, Vector, Map}
 use Rattle.sig_diff.specs.declared.contents.Kind.{Kind}
-use Rattle.sig_hist.proofs.Entries.{within_cap, IsInOrder}
+use Rattle.sig_hist.proofs.Entries.{within_cap}
 use Rattle.sig_hist.proofs.Telling.{kind_edited, kind_state}
-use Rattle.sig_hist.specs.Changes.{edited, size_of}
+use Rattle.sig_hist.specs.Changes.{IsInOrder, edited, size_of}
 use Rattle.sig_hist.specs.Histories.{state}
 use Rattle.sig_hist.specs.OneThread.{no_source}
 use Rattle.sig_hist.specs.Ports.{IsSoundPort, PortState}
