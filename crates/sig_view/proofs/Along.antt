@@ -3,15 +3,16 @@ use Rattle.std.proofs.Common.{◌≡◌, ℤ, List, [], ◌∷◌, ◌++◌, Opt
 use Rattle.std.specs.List.{flat_map}
 use Rattle.sig_diff.specs.declared.contents.Content.{Content}
 use Rattle.sig_diff.specs.declared.differences.VecDiff.{VecDiff}
-use Rattle.sig_expr.proofs.Awaiting.{agree_among, sig_among, sig_same, sigs_among, sigs_same, vec_among, vec_same, vecs_among, vecs_same}
+use Rattle.sig_expr.proofs.Awaiting.{agree_among, map_same, sig_among, sig_same, sigs_among, sigs_same, vec_among, vec_same, vecs_among, vecs_same}
 use Rattle.sig_expr.specs.Awaited.{Agree, all_of, each_sig_awaits, sig_awaits, vec_awaits}
 use Rattle.sig_expr.specs.Functions.{image, passes}
-use Rattle.sig_expr.specs.Leaves.{sig_leaves, sigs_leaves, vec_leaves, vecs_leaves}
-use Rattle.sig_expr.specs.Scratch.{list_of, lists_of, signals_of, value_of}
-use Rattle.sig_expr.specs.Trees.{SigTree, cell, mapped_signal, deduped, switched, length_of, total_of, at_key, VecTree, vector, mapped, filtered, filtered_by, mapped_by, sorted, joined, flattened, picked, keys_in, values_in, SigTrees, no_signals, more_signals, VecTrees, no_lists, more_lists}
+use Rattle.sig_expr.specs.Leaves.{map_leaves, sig_leaves, sigs_leaves, vec_leaves, vecs_leaves}
+use Rattle.sig_expr.specs.Scratch.{entries_of, list_of, lists_of, signals_of, value_of}
+use Rattle.sig_expr.specs.Trees.{MapTree, map_source, mapped_values, SigTree, cell, mapped_signal, deduped, switched, length_of, total_of, at_key, VecTree, vector, mapped, filtered, filtered_by, mapped_by, sorted, joined, flattened, picked, keys_in, values_in, SigTrees, no_signals, more_signals, VecTrees, no_lists, more_lists}
+use Rattle.sig_maps.specs.Tables.{keys_gives, map_value_gives, values_gives}
 use Rattle.sig_ops.specs.Tables.{filter_gives, map_gives}
 use Rattle.sig_sort.specs.Sorted.{sorted_gives}
-use Rattle.sig_view.specs.Flow.{Way, before, behind, list_flow, list_flows, new, old, passed, through, value_flow, value_flows}
+use Rattle.sig_view.specs.Flow.{Way, before, behind, list_flow, list_flows, map_flow, new, of_map, old, passed, through, value_flow, value_flows}
 
 -- ---- contents that agree on all leaves of a part
 
@@ -85,6 +86,16 @@ module _ {L : Type 0} (way other : L → Way) where
   old_lists : (bank : VecTrees L) → AlikeOn (vecs_leaves bank) → lists_of (old way) bank ≡ lists_of (old other) bank
   old_lists bank alike = same_lists (old way) (old other) bank (agree_before (vecs_leaves bank) alike)
 
+  pub same_map_flow : (m : MapTree L) → AlikeOn (map_leaves m) → map_flow way m ≡ map_flow other m
+  same_map_flow (map_source leaf) alike = rw (alike.0.before, alike.0.cap, alike.0.passed) refl
+  same_map_flow (mapped_values f m) alike = ap (flat_map (map_value_gives (image f))) (same_map_flow m alike)
+
+  old_map : (m : MapTree L) → AlikeOn (map_leaves m) → entries_of (old way) m ≡ entries_of (old other) m
+  old_map m alike = map_same (old way) (old other) m (agree_before (map_leaves m) alike)
+
+  new_map : (m : MapTree L) → AlikeOn (map_leaves m) → entries_of (new way) m ≡ entries_of (new other) m
+  new_map m alike = map_same (new way) (new other) m (agree_behind (map_leaves m) alike)
+
   mutual
     pub same_list_flow : (e : VecTree L) → AlikeOn (vec_leaves e) → list_flow way e ≡ list_flow other e
     same_list_flow (vector leaf) alike = rw (alike.0.before, alike.0.cap, alike.0.passed) refl
@@ -105,8 +116,8 @@ module _ {L : Type 0} (way other : L → Way) where
         rw (old_value e one, new_value e one, old_lists bank others, same_value_flow e one, same_list_flows bank others) refl
     same_list_flow (joined a b) alike = refl
     same_list_flow (flattened e bank) alike = refl
-    same_list_flow (keys_in m) alike = refl
-    same_list_flow (values_in m) alike = refl
+    same_list_flow (keys_in m) alike = ap₂ (of_map keys_gives) (old_map m alike) (same_map_flow m alike)
+    same_list_flow (values_in m) alike = ap₂ (of_map values_gives) (old_map m alike) (same_map_flow m alike)
 
     pub same_value_flow : (e : SigTree L) → AlikeOn (sig_leaves e) → value_flow way e ≡ value_flow other e
     same_value_flow (cell leaf) alike = rw (alike.0.before, alike.0.cap, alike.0.passed) refl
@@ -118,7 +129,7 @@ module _ {L : Type 0} (way other : L → Way) where
         rw (old_value e one, new_value e one, old_signals bank others, same_value_flow e one, same_value_flows bank others) refl
     same_value_flow (length_of e) alike = rw (old_list e alike, new_list e alike) refl
     same_value_flow (total_of e) alike = rw (old_list e alike, new_list e alike) refl
-    same_value_flow (at_key key default m) alike = refl
+    same_value_flow (at_key key default m) alike = rw (old_map m alike, new_map m alike) refl
 
     pub same_value_flows : (bank : SigTrees L) → AlikeOn (sigs_leaves bank) → value_flows way bank ≡ value_flows other bank
     same_value_flows no_signals alike = refl

@@ -19,7 +19,7 @@ use Rattle.sig_view.specs.Longest.{longest}
 use Rattle.sig_view.specs.Nodes.{view_ops}
 use Rattle.sig_view.specs.Polling.{HasFetched, HasPolled, IsPoll, IsSameTask}
 use Rattle.sig_view.specs.SoundRows.{AreWithin, IsFirstRow, nothing_seen, seen_after, tags_of}
-use Rattle.sig_view.specs.Starting.{IsViewStarted, list_length}
+use Rattle.sig_view.specs.Starting.{IsViewStarted, leaf_length}
 use Rattle.sig_view.specs.Tasks.{CanPoll, Holds, IsNew, IsReady, begun, contents_got, contents_of, ended, failed, has_row, is_lacking, positions_of, rows_given, sources_of, tags_at, view_of}
 use Rattle.sig_view.specs.Walking.{CanWalk, HasGone, HasLooked, IsFresh, Progress, seen_sources, set_out}
 use Rattle.sig_view.specs.declared.nodes.ViewNode.{ViewNode}
@@ -133,11 +133,11 @@ has_polled s t walk looked = record {
 }
 
 -- the lists that the operators start on are short
-pub starts_short : (t : PortState) (task : ViewTask) (contents : List (Option Content)) → IsReady t task → content_in contents ≡ contents_of t task → longest (list_length (content_in contents)) (view_of task) ≤ 65536
+pub starts_short : (t : PortState) (task : ViewTask) (contents : List (Option Content)) → IsReady t task → content_in contents ≡ contents_of t task → longest (leaf_length (content_in contents)) (view_of task) ≤ 65536
 starts_short t task contents ready all =
     let view : ViewTree ℕ = view_tree task.view in
     let caps : ℕ → ℕ = cap_of task.caps.value in
-    let lengths : ℕ → ℕ = list_length (contents_of t task) in
+    let lengths : ℕ → ℕ = leaf_length (contents_of t task) in
     let each : (leaf : ℕ) → leaf < length (leaves view) → lengths (0 + leaf) ≤ caps (slice_index (leaves view) leaf) = λ leaf within.
     let here : 0 + leaf ≡ leaf = omega arith in
     let fits : lengths leaf ≤ (t.plan (t.source (task.walk.first + leaf))).cap =
@@ -212,7 +212,7 @@ module _ (s t : PortState) (old new : ViewTask) (ready : IsReady s old) (before 
         let none : (leaf : ℕ) → leaf < length new.walk.positions → is_missing contents leaf ≡ false = rw count_now at lacks in
         all_fetched t new.walk.first new.walk.positions contents are none
 
-    pub short_first : begun new.stage ≡ false → contents_got new.stage ≡ contents → new.walk.held ≡ None → longest (list_length (content_in contents)) (view_of new) ≤ 65536
+    pub short_first : begun new.stage ≡ false → contents_got new.stage ≡ contents → new.walk.held ≡ None → longest (leaf_length (content_in contents)) (view_of new) ≤ 65536
     short_first fetching got held =
         let are : AreFetched (contents_of t new) (length (leaves (view_of new))) contents = rw same_count at tried.are in
         starts_short t new contents (ready_after (fetched_holds (contents_of t new) (view_of new) new.stage fetching (rw got are))) (all_there held)
@@ -235,7 +235,7 @@ module _ (s t : PortState) (old new : ViewTask) (ready : IsReady s old) (before 
         }
 
 module _ (s t : PortState) (old new : ViewTask) (begun_is : HasBegun s t old new) where
-  pub short_begun : new.walk.held ≡ None → longest (list_length (content_in (contents_got new.stage))) (view_of new) ≤ 65536
+  pub short_begun : new.walk.held ≡ None → longest (leaf_length (content_in (contents_got new.stage))) (view_of new) ≤ 65536
   short_begun held = short_first s t old new begun_is.ready begun_is.before begun_is.same begun_is.gone (contents_got new.stage) begun_is.tried begun_is.fetching refl held
 
   -- there is a place for each leaf

@@ -1,13 +1,16 @@
 -- What a view gives as its leaves go on leads from what it shows before to what it shows after.
-use Rattle.std.proofs.Common.{◌≡◌, ◌≢◌, ◌∙◌, ℕ, ◌+◌, ℤ, pos, List, [], ◌∷◌, ◌++◌, length, filter_map, cond, Bool, true, false, not, Option, None, Some, option_map, option_and_then, refl, sym, ap}
+use Rattle.std.proofs.Common.{◌≡◌, ◌≢◌, ◌∙◌, ℕ, ◌+◌, ℤ, pos, List, [], ◌∷◌, ◌++◌, length, take, filter_map, cond, Bool, true, false, not, Option, None, Some, option_map, option_and_then, refl, sym, ap}
 use Rattle.std.specs.Option.{option_map_or, option_to_list, unwrap_or}
 use Rattle.std.specs.Ordering.{int_eq}
+use Rattle.std.proofs.lemmas.Bool.{and_parts}
 use Rattle.std.proofs.lemmas.Bool.Decides.{Decides-int_eq}
+use Rattle.sig_diff.proofs.Keeping.{rising_values_mapped}
 use Rattle.sig_diff.specs.Contents.{entries_in, kind_of, number_in}
-use Rattle.sig_diff.specs.Entries.{has_key}
+use Rattle.sig_diff.specs.Entries.{IsRising, has_key}
 use Rattle.sig_diff.specs.MapDifferences.{MapIsLawful, map_applied}
 use Rattle.sig_diff.specs.Numbers.{clamped, total}
 use Rattle.sig_diff.specs.Replaying.{MapAreLawful, map_replayed}
+use Rattle.sig_diff.specs.declared.differences.VecDiff.{VecDiff}
 use Rattle.sig_diff.specs.declared.contents.Content.{Content}
 use Rattle.sig_diff.specs.declared.contents.Content.TheVariants.{Cell, Vector, Map}
 use Rattle.sig_diff.specs.declared.contents.Kind.{Kind}
@@ -16,11 +19,12 @@ use Rattle.sig_diff.specs.declared.map_differences.MapDiff.TheVariants as change
 use Rattle.sig_expr.specs.Functions.{image, passes}
 use Rattle.sig_expr.specs.Scratch.{entries_of, list_of, lists_of, signals_of, value_of}
 use Rattle.sig_expr.specs.Shows.{shows}
-use Rattle.sig_expr.specs.Trees.{MapTree, map_source, SigTree, cell, mapped_signal, deduped, switched, length_of, total_of, VecTree, vector, mapped, filtered, filtered_by, mapped_by, sorted, picked, SigTrees, no_signals, more_signals, VecTrees, no_lists, more_lists, ViewTree, signal_view, vector_view, map_view, entries_view, tagged_view}
+use Rattle.sig_expr.specs.Trees.{MapTree, map_source, mapped_values, SigTree, cell, mapped_signal, deduped, switched, length_of, total_of, at_key, VecTree, vector, mapped, filtered, filtered_by, mapped_by, sorted, picked, keys_in, values_in, SigTrees, no_signals, more_signals, VecTrees, no_lists, more_lists, ViewTree, signal_view, vector_view, map_view, entries_view, tagged_view}
 use Rattle.sig_expr.specs.declared.shown.Shown.{Shown}
 use Rattle.sig_expr.specs.declared.shown.Shown.TheVariants as shown
+use Rattle.sig_hist.proofs.InOrder.{state_in_order}
 use Rattle.sig_hist.proofs.Telling.{kind_state}
-use Rattle.sig_hist.specs.Changes.{Change, after, change_of, put_change}
+use Rattle.sig_hist.specs.Changes.{Change, IsInOrder, after, can_load, change_of, put_change}
 use Rattle.sig_hist.specs.Entering.{as_map, as_number, is_far, latest, map_entering, number_entering}
 use Rattle.sig_hist.specs.Histories.{changes_by, state}
 use Rattle.sig_hist.specs.declared.edits.Edit.{Edit}
@@ -29,46 +33,47 @@ use Rattle.sig_hist.specs.declared.edits.Entry.{Entry}
 use Rattle.sig_ops.specs.Enumerating.{Enumeration, IsEnumeration, values_of}
 use Rattle.sig_ops.specs.Signals.{given}
 use Rattle.sig_view.proofs.ByClass.{EachGoes, no_part, one_part, SignalsGo, filter_by_leads, map_by_leads, pick_leads, switch_leads}
+use Rattle.sig_view.proofs.ByMap.{FollowsMap, IsOrderly, MapLeads, entries_follow, keys_follow, of_map_leads, values_follow, values_lead}
 use Rattle.sig_view.proofs.Tags.{tags_differ, tags_follow, tags_lawful, tags_replay}
 use Rattle.sig_view.proofs.Turning.{Leads, behind_is, entering_leads, filter_keeps_up, map_leads, sorted_keeps_up, through_leads}
-use Rattle.sig_view.specs.Built.{AreListsBuilt, AreSignalsBuilt, IsBuilt, IsListBuilt, IsMapBuilt, IsSignalBuilt}
-use Rattle.sig_view.specs.Flow.{GoesAhead, Way, before, flow, list_flow, list_flows, map_flow, new, old, passed, tags_after, value_flow, value_flows, with_tags}
+use Rattle.sig_view.specs.Built.{AreListsBuilt, AreSignalsBuilt, IsBuilt, IsListBuilt, IsSignalBuilt}
+use Rattle.sig_view.specs.Flow.{GoesAhead, Way, before, flow, list_flow, list_flows, map_flow, new, of_map, old, passed, tags_after, value_flow, value_flows, with_tags}
 use Rattle.sig_view.specs.SoundRows.{IsLawfulBody, IsShownBy, TagsDiffer, shown_after, tags_in, tags_made, without_tags}
 
 -- ---- maps
 
--- differences lead from one map to another: each is lawful at its turn, and their replay is the other
-pub record MapLeads (from : List (ℤ × ℤ)) (diffs : List (MapDiff ℤ)) (to : List (ℤ × ℤ)) : Type 0 where
-  pub lawful : MapAreLawful from diffs
-  pub replay : map_replayed from diffs ≡ to
+entries_rising : (content : Content) → IsInOrder content → IsRising (entries_in content)
+entries_rising (Cell x) in_order = refl
+entries_rising (Vector items) in_order = refl
+entries_rising (Map pairs) in_order = in_order
 
 abbrev LeadOn : ℕ → List Entry → Type 0
 LeadOn cap entries = (pairs : List (ℤ × ℤ)) → MapLeads pairs (filter_map as_map (changes_by (Map pairs) cap entries)) (entries_in (state (Map pairs) cap entries))
 
--- a map takes what its edits change
+-- a map takes what its edits change, and a map that is loaded has rising keys
 abbrev IsTaken : List (ℤ × ℤ) → Option Change → Type 0
 IsTaken pairs None = Unit {0}
-IsTaken pairs (Some (Change.map diff)) = MapIsLawful diff pairs
+IsTaken pairs (Some (Change.map diff)) = MapIsLawful diff pairs × IsOrderly diff
 IsTaken pairs (Some change) = ⊥
 
 put_taken : (pairs : List (ℤ × ℤ)) (key value : ℤ) (has room : Bool) → has_key key pairs ≡ has → IsTaken pairs (put_change has room key value)
-put_taken pairs key value true room is = is
-put_taken pairs key value false true is = ap not is
+put_taken pairs key value true room is = (is, tt)
+put_taken pairs key value false true is = (ap not is, tt)
 put_taken pairs key value false false is = tt
 
 delete_taken : (pairs : List (ℤ × ℤ)) (key : ℤ) (has : Bool) → has_key key pairs ≡ has → IsTaken pairs (cond has (Some (Change.map (changed.Remove key))) None)
-delete_taken pairs key true is = is
+delete_taken pairs key true is = (is, tt)
 delete_taken pairs key false is = tt
 
-load_taken : (pairs others : List (ℤ × ℤ)) (fits : Bool) → IsTaken pairs (cond fits (Some (Change.map (changed.Replace others))) None)
-load_taken pairs others true = refl
-load_taken pairs others false = tt
+load_taken : (pairs others : List (ℤ × ℤ)) (cap : ℕ) (can : Bool) → can_load cap others ≡ can → IsTaken pairs (cond can (Some (Change.map (changed.Replace others))) None)
+load_taken pairs others cap true is = (refl, (and_parts _ _ is).0)
+load_taken pairs others cap false is = tt
 
 edit_taken : (pairs : List (ℤ × ℤ)) (cap : ℕ) (edit : Edit) → IsTaken pairs (change_of (Map pairs) cap edit)
 edit_taken pairs cap (Put key value) = put_taken pairs key value (has_key key pairs) _ refl
 edit_taken pairs cap (Delete key) = delete_taken pairs key (has_key key pairs) refl
-edit_taken pairs cap (Load others) = load_taken pairs others _
-edit_taken pairs cap Wipe = refl
+edit_taken pairs cap (Load others) = load_taken pairs others cap (can_load cap others) refl
+edit_taken pairs cap Wipe = (refl, tt)
 edit_taken pairs cap edit = tt
 
 change_leads : (pairs : List (ℤ × ℤ)) (cap : ℕ) (change : Option Change) (entries : List Entry) → IsTaken pairs change → LeadOn cap entries →
@@ -76,27 +81,27 @@ change_leads : (pairs : List (ℤ × ℤ)) (cap : ℕ) (change : Option Change) 
     MapLeads pairs (filter_map as_map (option_to_list change ++ changes_by next cap entries)) (entries_in (state next cap entries))
 change_leads pairs cap None entries taken later = later pairs
 change_leads pairs cap (Some (Change.map diff)) entries taken later =
-    let rest = later (map_applied pairs diff) in record { lawful = (taken, rest.lawful); replay = rest.replay }
+    let rest = later (map_applied pairs diff) in record { lawful = (taken.0, rest.lawful); replay = rest.replay; orderly = (taken.1, rest.orderly) }
 change_leads pairs cap (Some change) entries taken later = absurd taken
 
 changes_lead : (cap : ℕ) (entries : List Entry) → LeadOn cap entries
-changes_lead cap [] pairs = record { lawful = tt; replay = refl }
+changes_lead cap [] pairs = record { lawful = tt; replay = refl; orderly = tt }
 changes_lead cap (entry ∷ entries) pairs = change_leads pairs cap (change_of (Map pairs) cap entry.edit) entries (edit_taken pairs cap entry.edit) (changes_lead cap entries)
 
-far_leads : (pairs : List (ℤ × ℤ)) (cap : ℕ) (entries : List Entry) (far : Bool) → let last : List (ℤ × ℤ) = entries_in (state (Map pairs) cap entries) in
+far_leads : (pairs : List (ℤ × ℤ)) (cap : ℕ) (entries : List Entry) (far : Bool) → IsRising pairs → let last : List (ℤ × ℤ) = entries_in (state (Map pairs) cap entries) in
     MapLeads pairs (cond far (changed.Replace last ∷ []) (filter_map as_map (changes_by (Map pairs) cap entries))) last
-far_leads pairs cap entries true = record { lawful = (refl, tt); replay = refl }
-far_leads pairs cap entries false = changes_lead cap entries pairs
+far_leads pairs cap entries true rising = record { lawful = (refl, tt); replay = refl; orderly = (entries_rising (state (Map pairs) cap entries) (state_in_order (Map pairs) cap entries rising), tt) }
+far_leads pairs cap entries false rising = changes_lead cap entries pairs
 
 no_map : (content : Content) (kind : Kind) → kind_of content ≡ kind → kind ≢ Kind.Map → MapLeads [] [] (entries_in content)
 no_map (Map pairs) kind is other = absurd (other (sym is))
-no_map (Cell x) kind is other = record { lawful = tt; replay = refl }
-no_map (Vector items) kind is other = record { lawful = tt; replay = refl }
+no_map (Cell x) kind is other = record { lawful = tt; replay = refl; orderly = tt }
+no_map (Vector items) kind is other = record { lawful = tt; replay = refl; orderly = tt }
 
-map_entering_leads : (content : Content) (cap : ℕ) (entries : List Entry) → MapLeads (entries_in content) (map_entering content cap entries) (entries_in (state content cap entries))
-map_entering_leads (Cell x) cap entries = no_map _ Kind.Cell (kind_state (Cell x) cap entries) (λ same. cc)
-map_entering_leads (Vector items) cap entries = no_map _ Kind.Vector (kind_state (Vector items) cap entries) (λ same. cc)
-map_entering_leads (Map pairs) cap entries = far_leads pairs cap entries (is_far entries)
+map_entering_leads : (content : Content) (cap : ℕ) (entries : List Entry) → IsInOrder content → MapLeads (entries_in content) (map_entering content cap entries) (entries_in (state content cap entries))
+map_entering_leads (Cell x) cap entries in_order = no_map _ Kind.Cell (kind_state (Cell x) cap entries) (λ same. cc)
+map_entering_leads (Vector items) cap entries in_order = no_map _ Kind.Vector (kind_state (Vector items) cap entries) (λ same. cc)
+map_entering_leads (Map pairs) cap entries in_order = far_leads pairs cap entries (is_far entries) in_order
 
 -- ---- signals
 
@@ -146,6 +151,21 @@ dedupe_leads (Some x) last = given_leads last x (int_eq last x) refl
 -- ---- views
 
 module _ {L : Type 0} (way : L → Way) (goes : (leaf : L) → GoesAhead (way leaf)) where
+  pub order_before : (leaf : L) → IsInOrder (before (way leaf))
+  order_before leaf = state_in_order (way leaf).source.plan.start (way leaf).source.plan.cap (take (way leaf).from (way leaf).source.history) (goes leaf).in_order
+
+  pub map_rises : (m : MapTree L) → IsRising (entries_of (old way) m)
+  map_rises (map_source leaf) = entries_rising (before (way leaf)) (order_before leaf)
+  map_rises (mapped_values f m) = rising_values_mapped (image f) (entries_of (old way) m) (map_rises m)
+
+  pub map_flow_leads : (m : MapTree L) → MapLeads (entries_of (old way) m) (map_flow way m) (entries_of (new way) m)
+  map_flow_leads (map_source leaf) = rw (behind_is (way leaf) (goes leaf).ahead) (map_entering_leads (before (way leaf)) (way leaf).source.plan.cap (passed (way leaf)) (order_before leaf))
+  map_flow_leads (mapped_values f m) = values_lead (image f) (entries_of (old way) m) (entries_of (new way) m) (map_flow way m) (map_flow_leads m)
+
+  of_map_flow_leads : {U : Type 0} {gives : List (ℤ × ℤ) → MapDiff ℤ → List (VecDiff U)} {view : List (ℤ × ℤ) → List U} → FollowsMap gives view → (m : MapTree L) →
+      Leads (view (entries_of (old way) m)) (of_map gives (entries_of (old way) m) (map_flow way m)) (view (entries_of (new way) m))
+  of_map_flow_leads follows m = of_map_leads follows (entries_of (old way) m) (entries_of (new way) m) (map_flow way m) (map_rises m) (map_flow_leads m)
+
   mutual
     -- a list
     pub flow_leads : (e : VecTree L) → IsListBuilt e → Leads (list_of (old way) e) (list_flow way e) (list_of (new way) e)
@@ -159,6 +179,8 @@ module _ {L : Type 0} (way : L → Way) (goes : (leaf : L) → GoesAhead (way le
         map_by_leads (list_of (old way) e) (list_flow way e) (list_of (new way) e) (signals_of (old way) bank) (value_flows way bank) (signals_of (new way) bank) (flow_leads e is.0) (signals_lead bank is.1)
     flow_leads (picked e bank) is =
         pick_leads (value_of (old way) e) (value_flow way e) (value_of (new way) e) (lists_of (old way) bank) (list_flows way bank) (lists_of (new way) bank) (signal_leads e is.0) (lists_lead bank is.1)
+    flow_leads (keys_in m) is = of_map_flow_leads keys_follow m
+    flow_leads (values_in m) is = of_map_flow_leads values_follow m
     flow_leads _ is = absurd is
 
     -- a signal
@@ -170,7 +192,7 @@ module _ {L : Type 0} (way : L → Way) (goes : (leaf : L) → GoesAhead (way le
         switch_leads (value_of (old way) e) (value_flow way e) (value_of (new way) e) (signals_of (old way) bank) (value_flows way bank) (signals_of (new way) bank) (signal_leads e is.0) (signals_lead bank is.1)
     signal_leads (length_of e) is = given_leads (pos (length (list_of (old way) e))) (pos (length (list_of (new way) e))) _ refl
     signal_leads (total_of e) is = given_leads (clamped (total (list_of (old way) e))) (clamped (total (list_of (new way) e))) _ refl
-    signal_leads _ is = absurd is
+    signal_leads (at_key key default m) is = given_leads (value_of (old way) (at_key key default m)) (value_of (new way) (at_key key default m)) _ refl
 
     -- the parts of a bank
     pub signals_lead : (bank : SigTrees L) → AreSignalsBuilt bank → SignalsGo (signals_of (old way) bank) (value_flows way bank) (signals_of (new way) bank)
@@ -180,10 +202,6 @@ module _ {L : Type 0} (way : L → Way) (goes : (leaf : L) → GoesAhead (way le
     pub lists_lead : (bank : VecTrees L) → AreListsBuilt bank → EachGoes (Leads {T = ℤ}) (lists_of (old way) bank) (list_flows way bank) (lists_of (new way) bank)
     lists_lead no_lists is = no_part
     lists_lead (more_lists e bank) is = one_part (list_of (old way) e) (list_flow way e) (list_of (new way) e) (flow_leads e is.0) (lists_lead bank is.1)
-
-  pub map_flow_leads : (m : MapTree L) → IsMapBuilt m → MapLeads (entries_of (old way) m) (map_flow way m) (entries_of (new way) m)
-  map_flow_leads (map_source leaf) is = rw (behind_is (way leaf) (goes leaf).ahead) (map_entering_leads (before (way leaf)) (way leaf).source.plan.cap (passed (way leaf)))
-  map_flow_leads _ is = absurd is
 
   -- the body is lawful where the view's content before is shown, and the content after is shown then, with the tags that follow
   pub record BodyLeads (view : ViewTree L) (seen : Shown) (next : ℕ) : Type 0 where
@@ -202,9 +220,12 @@ module _ {L : Type 0} (way : L → Way) (goes : (leaf : L) → GoesAhead (way le
       record { lawful = rw same leads.lawful; replay = rw same (ap shown.Vector leads.replay); follow = refl; differ = tt }
   view_leads (map_view m) (shown.Map pairs) next is shows_it =
       let same : pairs ≡ entries_of (old way) m = (let shows = shows_it.shows in cc) in
-      let leads = map_flow_leads m is in
+      let leads = map_flow_leads m in
       record { lawful = rw same leads.lawful; replay = rw same (ap shown.Map leads.replay); follow = refl; differ = tt }
-  view_leads (entries_view m) seen next is shows_it = absurd is
+  view_leads (entries_view m) (shown.Pairs pairs) next is shows_it =
+      let same : pairs ≡ entries_of (old way) m = (let shows = shows_it.shows in cc) in
+      let leads = of_map_flow_leads entries_follow m in
+      record { lawful = rw same leads.lawful; replay = rw same (ap shown.Pairs leads.replay); follow = refl; differ = tt }
   view_leads (tagged_view e) (shown.Tagged elements) next is shows_it =
       let op : Enumeration = record { elements = elements; next = next } in
       let same : values_of elements ≡ list_of (old way) e = (let shows = shows_it.shows in cc) in

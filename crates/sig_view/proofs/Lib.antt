@@ -1,6 +1,7 @@
 pub mod Turning
 pub mod ByClass
 pub mod Tags
+pub mod ByMap
 pub mod Leading
 pub mod Still
 pub mod Staying
@@ -15,6 +16,7 @@ pub mod ByChooser
 pub mod ListArms
 pub mod Results
 pub mod SignalArms
+pub mod MapArms
 pub mod SwitchSteps
 pub mod PickSteps
 pub mod Standing
@@ -22,6 +24,8 @@ pub mod Picking
 pub mod Along
 pub mod Numbering
 pub mod Trees
+pub mod MapTrees
+pub mod MapShortening
 pub mod Shortening
 pub mod Values
 pub mod Tagging
@@ -34,3 +38,4 @@ pub mod AllTried
 pub mod FirstRows
 pub mod Beginning
 pub mod BankStarts
+pub mod MapStarts

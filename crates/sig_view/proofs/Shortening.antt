@@ -5,16 +5,18 @@ use Rattle.std.specs.Option.{option_map_or, option_to_list}
 use Rattle.sig_bank.specs.Banks.{BySignals}
 use Rattle.sig_bank.specs.Tables.{pick_gives}
 use Rattle.sig_diff.specs.Choosing.{chosen, is_let_in, list_for, raised_by}
-use Rattle.sig_diff.specs.Contents.{list_in}
+use Rattle.sig_diff.specs.Contents.{entries_in, list_in}
 use Rattle.sig_diff.specs.Differences.{applied, is_lawful}
 use Rattle.sig_diff.specs.Replaying.{AreLawful, StaysShort}
 use Rattle.sig_diff.specs.declared.contents.Content.{Content}
 use Rattle.sig_diff.specs.declared.contents.Content.TheVariants.{Cell, Vector, Map}
 use Rattle.sig_diff.specs.declared.differences.VecDiff.{VecDiff}
 use Rattle.sig_diff.specs.declared.differences.VecDiff.TheVariants.{Replace}
+use Rattle.sig_diff.specs.declared.map_differences.MapDiff.{MapDiff}
+use Rattle.sig_expr.specs.Bounds.{map_bound}
 use Rattle.sig_expr.specs.Functions.{image, passes}
-use Rattle.sig_expr.specs.Scratch.{list_of, lists_of, signals_of, value_of}
-use Rattle.sig_expr.specs.Trees.{VecTree, vector, mapped, filtered, filtered_by, mapped_by, sorted, picked, VecTrees, no_lists, more_lists}
+use Rattle.sig_expr.specs.Scratch.{entries_of, list_of, lists_of, signals_of, value_of}
+use Rattle.sig_expr.specs.Trees.{MapTree, VecTree, vector, mapped, filtered, filtered_by, mapped_by, sorted, picked, keys_in, values_in, VecTrees, no_lists, more_lists}
 use Rattle.sig_hist.proofs.Entries.{within_cap}
 use Rattle.sig_hist.specs.Changes.{Change, after, change_of, edited, is_long, size_of}
 use Rattle.sig_hist.specs.Entering.{as_list, is_far, list_entering}
@@ -28,11 +30,13 @@ use Rattle.sig_ops.specs.Tables.{map_gives}
 use Rattle.sig_ops.specs.TurnSteps.{stays_append}
 use Rattle.sig_view.proofs.Carrying.{held_before, list_is_built, never_back, same_sources}
 use Rattle.sig_view.proofs.ByClass.{EachGoes, no_part, one_part, GoesBySignals, IsGivenOrKept, SignalsGo, by_signals_lead, chosen_goes, filter_goes_by_signals, map_goes_by_signals, pick_turns}
-use Rattle.sig_view.proofs.Leading.{flow_leads, signal_leads, signals_lead}
+use Rattle.sig_view.proofs.ByMap.{FollowsMap, keys_follow, of_map_stays, values_follow}
+use Rattle.sig_view.proofs.MapShortening.{map_flow_short, seen_map_short}
+use Rattle.sig_view.proofs.Leading.{flow_leads, map_flow_leads, map_rises, signal_leads, signals_lead}
 use Rattle.sig_view.proofs.Staying.{same_plan}
 use Rattle.sig_view.proofs.Turning.{KeepsUp, Leads, filter_keeps_up, map_keeps_up, map_leads, map_through, sorted_keeps_up, through_follows, through_leads}
 use Rattle.sig_view.specs.Built.{AreListsBuilt, IsListBuilt}
-use Rattle.sig_view.specs.Flow.{GoesAhead, Way, before, by_signals, given_list, list_flow, list_flows, new, old, passed, state_at, through, value_flow}
+use Rattle.sig_view.specs.Flow.{GoesAhead, Way, before, by_signals, given_list, list_flow, list_flows, map_flow, new, of_map, old, passed, state_at, through, value_flow}
 use Rattle.sig_view.specs.Longest.{vec_longest, vecs_longest}
 use Rattle.sig_view.specs.Nodes.{ListOps, list_tree}
 use Rattle.sig_view.specs.SoundRows.{GoOn, contents_at, leaf_source, ways}
@@ -166,9 +170,20 @@ module _ (most : ℕ) where
 
 -- ---- lists
 
-module _ {L : Type 0} (way : L → Way) (goes : (leaf : L) → GoesAhead (way leaf)) (short : (leaf : L) → length (list_in (before (way leaf))) ≤ (way leaf).source.plan.cap) (most : ℕ) where
+module _ {L : Type 0} (way : L → Way) (goes : (leaf : L) → GoesAhead (way leaf)) (short : (leaf : L) → length (list_in (before (way leaf))) ≤ (way leaf).source.plan.cap)
+    (short_map : (leaf : L) → length (entries_in (before (way leaf))) ≤ (way leaf).source.plan.cap) (most : ℕ) where
   abbrev cap : L → ℕ
   cap leaf = (way leaf).source.plan.cap
+
+  of_map_short : {gives : List (ℤ × ℤ) → MapDiff ℤ → List (VecDiff ℤ)} {view : List (ℤ × ℤ) → List ℤ} → FollowsMap gives view → (m : MapTree L) → map_bound cap m ≤ most →
+      GoesShort most (view (entries_of (old way) m)) (of_map gives (entries_of (old way) m) (map_flow way m))
+  of_map_short follows m few =
+      let below = map_flow_short way goes short_map most m few in
+      let leads = map_flow_leads way goes m in
+      record {
+        before = rw (follows.long (entries_of (old way) m)) below.before;
+        stays = of_map_stays follows most (entries_of (old way) m) (map_flow way m) (map_rises way goes m) leads.lawful leads.orderly below;
+      }
 
   mutual
     flows_short : (e : VecTree L) → IsListBuilt e → vec_longest cap e ≤ most → GoesShort most (list_of (old way) e) (list_flow way e)
@@ -193,6 +208,8 @@ module _ {L : Type 0} (way : L → Way) (goes : (leaf : L) → GoesAhead (way le
         (map_short most (raised_by (signals_of (old way) bank)) (list_of (old way) e) (list_flow way e) leads.lawful below)
     flows_short (picked e bank) is few =
         pick_short most (value_of (old way) e) (value_flow way e) (value_of (new way) e) (lists_of (old way) bank) (list_flows way bank) (lists_of (new way) bank) (signal_leads way goes e is.0) (lists_short bank is.1 (omega (arith, few)))
+    flows_short (keys_in m) is few = of_map_short keys_follow m few
+    flows_short (values_in m) is few = of_map_short values_follow m few
     flows_short _ is few = absurd is
 
     lists_short : (bank : VecTrees L) → AreListsBuilt bank → vecs_longest cap bank ≤ most → EachGoes (PartShort most) (lists_of (old way) bank) (list_flows way bank) (lists_of (new way) bank)
@@ -217,7 +234,7 @@ module _ (s t : PortState) (old new : Progress) (can : CanWalk s old) (gone : Ha
       GoesShort most (list_of (contents_at (sources_in s old) old.positions) (list_tree ops)) (list_flow (ways (sources_in t new) old.positions new.positions) (list_tree ops))
   goes_short goes_on ops most few =
       let short : (leaf : ℕ) → IsShort (leaf_source (sources_in t new) leaf) = λ leaf. seen_short t gone.can.sound new.first (length new.positions) leaf in
-      rw (← held_before s t old new can gone) (flows_short (ways (sources_in t new) old.positions new.positions) (never_back s t old new can gone goes_on) (λ leaf. short leaf (slice_index old.positions leaf)) most (list_tree ops) (list_is_built ops) (rw same_caps few))
+      rw (← held_before s t old new can gone) (flows_short (ways (sources_in t new) old.positions new.positions) (never_back s t old new can gone goes_on) (λ leaf. short leaf (slice_index old.positions leaf)) (λ leaf. seen_map_short t gone.can.sound new.first (length new.positions) leaf (slice_index old.positions leaf)) most (list_tree ops) (list_is_built ops) (rw same_caps few))
 
   pub carries_short : GoOn old.positions new.positions → (ops : ListOps) (most : ℕ) → vec_longest (cap_at (sources_in s old)) (list_tree ops) ≤ most →
       StaysShort most (list_of (contents_at (sources_in s old) old.positions) (list_tree ops)) (list_flow (ways (sources_in t new) old.positions new.positions) (list_tree ops))

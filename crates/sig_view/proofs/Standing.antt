@@ -1,11 +1,12 @@
 -- Operators stand for contents that agree with those that they stand for on the leaves.
 use Rattle.std.proofs.Common.{◌∙◌, ℕ, length, ap}
+use Rattle.sig_diff.specs.Entries.{value_at}
 use Rattle.sig_diff.specs.declared.contents.Content.{Content}
-use Rattle.sig_expr.proofs.Awaiting.{agree_back, agree_front}
+use Rattle.sig_expr.proofs.Awaiting.{agree_back, agree_front, map_same}
 use Rattle.sig_expr.specs.Awaited.{Agree}
 use Rattle.sig_expr.specs.Leaves.{sig_leaves, sigs_leaves, vec_leaves, vecs_leaves}
 use Rattle.sig_view.proofs.Along.{same_list, same_lists, same_signals, same_value}
-use Rattle.sig_view.specs.Nodes.{ListOps, ListStands, ListsOps, ListsStand, SignalOps, SignalStands, SignalsOps, SignalsStand, count_of, image_of, images, kept, let_in, list_tree, list_trees, no_list, no_signal, number, one_list, one_signal, ordered, pick_of, raised, signal_tree, signal_trees, source, sum_of, switch_of, without_repeats}
+use Rattle.sig_view.specs.Nodes.{ListOps, ListStands, ListsOps, ListsStand, SignalOps, SignalStands, SignalsOps, SignalsStand, count_of, image_of, images, kept, keys_by, let_in, list_tree, list_trees, no_list, no_signal, number, one_list, one_signal, ordered, pick_of, raised, signal_tree, signal_trees, source, sum_of, switch_of, value_at_key, values_by, without_repeats}
 
 module _ (s t : ℕ → Content) where
   mutual
@@ -26,6 +27,8 @@ module _ (s t : ℕ → Content) where
         let one = agree_front s t (sig_leaves (signal_tree ops)) (vecs_leaves (list_trees bank)) agree in
         let others = agree_back s t (sig_leaves (signal_tree ops)) (vecs_leaves (list_trees bank)) agree in
         (stands.0 ∙ same_value s t (signal_tree ops) one, stands.1 ∙ same_lists s t (list_trees bank) others, signal_stands ops one stands.2, lists_stand bank others stands.3)
+    list_stands (keys_by entries m) agree stands = stands ∙ map_same s t m agree
+    list_stands (values_by entries m) agree stands = stands ∙ map_same s t m agree
 
     pub signal_stands : (ops : SignalOps) → Agree s t (sig_leaves (signal_tree ops)) → SignalStands s ops → SignalStands t ops
     signal_stands (number leaf) agree stands = tt
@@ -37,6 +40,7 @@ module _ (s t : ℕ → Content) where
         (stands.0 ∙ same_value s t (signal_tree ops) one, stands.1 ∙ same_signals s t (signal_trees bank) others, signal_stands ops one stands.2, signals_stand bank others stands.3)
     signal_stands (count_of len ops) agree stands = (stands.0 ∙ ap length (same_list s t (list_tree ops) agree), list_stands ops agree stands.1)
     signal_stands (sum_of items ops) agree stands = (stands.0 ∙ same_list s t (list_tree ops) agree, list_stands ops agree stands.1)
+    signal_stands (value_at_key key m) agree stands = stands ∙ ap (value_at key.key) (map_same s t m agree)
 
     pub signals_stand : (bank : SignalsOps) → Agree s t (sigs_leaves (signal_trees bank)) → SignalsStand s bank → SignalsStand t bank
     signals_stand no_signal agree stands = tt

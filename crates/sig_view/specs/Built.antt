@@ -1,5 +1,5 @@
 -- The expressions whose operators are built.
-use Rattle.sig_expr.specs.Trees.{SigTree, cell, mapped_signal, deduped, switched, length_of, total_of, VecTree, vector, mapped, filtered, filtered_by, mapped_by, sorted, picked, SigTrees, no_signals, more_signals, VecTrees, no_lists, more_lists, MapTree, map_source, ViewTree, signal_view, vector_view, map_view, entries_view, tagged_view}
+use Rattle.sig_expr.specs.Trees.{SigTree, cell, mapped_signal, deduped, switched, length_of, total_of, at_key, VecTree, vector, mapped, filtered, filtered_by, mapped_by, sorted, picked, keys_in, values_in, SigTrees, no_signals, more_signals, VecTrees, no_lists, more_lists, ViewTree, signal_view, vector_view, map_view, entries_view, tagged_view}
 
 module _ {L : Type 0} where
   abbrev mutual
@@ -11,6 +11,8 @@ module _ {L : Type 0} where
     IsListBuilt (filtered_by e bank) = IsListBuilt e × AreSignalsBuilt bank
     IsListBuilt (mapped_by e bank) = IsListBuilt e × AreSignalsBuilt bank
     IsListBuilt (picked e bank) = IsSignalBuilt e × AreListsBuilt bank
+    IsListBuilt (keys_in m) = Unit {0}
+    IsListBuilt (values_in m) = Unit {0}
     IsListBuilt _ = ⊥
 
     pub IsSignalBuilt : SigTree L → Type 0
@@ -20,7 +22,7 @@ module _ {L : Type 0} where
     IsSignalBuilt (switched e bank) = IsSignalBuilt e × AreSignalsBuilt bank
     IsSignalBuilt (length_of e) = IsListBuilt e
     IsSignalBuilt (total_of e) = IsListBuilt e
-    IsSignalBuilt _ = ⊥
+    IsSignalBuilt (at_key key default m) = Unit {0}
 
     pub AreSignalsBuilt : SigTrees L → Type 0
     AreSignalsBuilt no_signals = Unit {0}
@@ -30,13 +32,9 @@ module _ {L : Type 0} where
     AreListsBuilt no_lists = Unit {0}
     AreListsBuilt (more_lists e bank) = IsListBuilt e × AreListsBuilt bank
 
-  abbrev pub IsMapBuilt : MapTree L → Type 0
-  IsMapBuilt (map_source leaf) = Unit {0}
-  IsMapBuilt _ = ⊥
-
   abbrev pub IsBuilt : ViewTree L → Type 0
   IsBuilt (signal_view e) = IsSignalBuilt e
   IsBuilt (vector_view e) = IsListBuilt e
-  IsBuilt (map_view m) = IsMapBuilt m
-  IsBuilt (entries_view m) = ⊥
+  IsBuilt (map_view m) = Unit {0}
+  IsBuilt (entries_view m) = Unit {0}
   IsBuilt (tagged_view e) = IsListBuilt e

@@ -1,11 +1,13 @@
 -- What a view gives as its leaves go on along the histories of their sources.
 use Rattle.std.specs.Prelude.{ℕ, ◌+◌, ◌≤◌, ℤ, pos, List, [], ◌∷◌, ◌++◌, length, take, drop, Option, None, Some, option_map, option_and_then}
-use Rattle.std.specs.Option.{option_map_or, option_or}
+use Rattle.std.specs.Option.{option_map_or, option_or, unwrap_or}
 use Rattle.std.specs.List.{flat_map}
 use Rattle.sig_bank.specs.Banks.{BySignals, signals_next}
 use Rattle.sig_bank.specs.Tables.{filter_by_signal, map_by_signal, pick_gives, switch_gives}
 use Rattle.sig_diff.specs.Choosing.{chosen, is_let_in, raised_by}
 use Rattle.sig_diff.specs.Differences.{applied}
+use Rattle.sig_diff.specs.Entries.{value_at}
+use Rattle.sig_diff.specs.MapDifferences.{map_applied}
 use Rattle.sig_diff.specs.Numbers.{clamped, total}
 use Rattle.sig_diff.specs.declared.contents.Content.{Content}
 use Rattle.sig_diff.specs.declared.differences.VecDiff.{VecDiff}
@@ -13,9 +15,9 @@ use Rattle.sig_diff.specs.declared.differences.VecDiff.TheVariants.{Replace}
 use Rattle.sig_diff.specs.declared.map_differences.MapDiff.{MapDiff}
 use Rattle.sig_diff.specs.declared.map_differences.MapDiff.TheVariants as changed
 use Rattle.sig_expr.specs.Functions.{image, passes}
-use Rattle.sig_expr.specs.Scratch.{list_of, lists_of, signals_of, value_of}
+use Rattle.sig_expr.specs.Scratch.{entries_of, list_of, lists_of, signals_of, value_of}
 use Rattle.sig_expr.specs.Shows.{shows}
-use Rattle.sig_expr.specs.Trees.{MapTree, map_source, SigTree, cell, mapped_signal, deduped, switched, length_of, total_of, VecTree, vector, mapped, filtered, filtered_by, mapped_by, sorted, picked, SigTrees, no_signals, more_signals, VecTrees, no_lists, more_lists, ViewTree, signal_view, vector_view, map_view, entries_view, tagged_view}
+use Rattle.sig_expr.specs.Trees.{MapTree, map_source, mapped_values, SigTree, cell, mapped_signal, deduped, switched, length_of, total_of, at_key, VecTree, vector, mapped, filtered, filtered_by, mapped_by, sorted, picked, keys_in, values_in, SigTrees, no_signals, more_signals, VecTrees, no_lists, more_lists, ViewTree, signal_view, vector_view, map_view, entries_view, tagged_view}
 use Rattle.sig_expr.specs.declared.shown.Shown.{Shown}
 use Rattle.sig_expr.specs.declared.shown.Shown.TheVariants as shown
 use Rattle.sig_hist.specs.Changes.{IsInOrder}
@@ -23,6 +25,7 @@ use Rattle.sig_hist.specs.Entering.{list_entering, map_entering, number_entering
 use Rattle.sig_hist.specs.Histories.{state}
 use Rattle.sig_hist.specs.Sources.{Source}
 use Rattle.sig_hist.specs.declared.edits.Entry.{Entry}
+use Rattle.sig_maps.specs.Tables.{entries_gives, keys_gives, map_value_gives, values_gives}
 use Rattle.sig_ops.specs.Enumerating.{Enumeration, enumerate_gives, enumeration_next, tagged_from}
 use Rattle.sig_ops.specs.Following.{after_all, all_given}
 use Rattle.sig_ops.specs.Signals.{given}
@@ -60,6 +63,15 @@ abbrev pub through : {T U : Type 0} → (List T → VecDiff T → List (VecDiff 
 through gives xs [] = []
 through gives xs (diff ∷ diffs) = gives xs diff ++ through gives (applied xs diff) diffs
 
+-- what an operator that keeps a state gives for differences, one after another
+abbrev pub given_along : {O D U : Type 0} → (O → D → List U) → (O → D → O) → O → List D → List U
+given_along gives next op [] = []
+given_along gives next op (diff ∷ diffs) = gives op diff ++ given_along gives next (next op diff) diffs
+
+-- what a view of a map gives for differences of it
+abbrev pub of_map : {U : Type 0} → (List (ℤ × ℤ) → MapDiff ℤ → List (VecDiff U)) → List (ℤ × ℤ) → List (MapDiff ℤ) → List (VecDiff U)
+of_map gives = given_along gives map_applied
+
 -- what an operator gives where a signal gives a value, if it gives one
 abbrev pub given_list : {A : Type 0} → (ℤ → List A) → Option ℤ → List A
 given_list gives value = option_map_or gives value []
@@ -86,7 +98,7 @@ module _ {L : Type 0} (way : L → Way) where
 
   abbrev pub map_flow : MapTree L → List (MapDiff ℤ)
   map_flow (map_source leaf) = map_entering (old leaf) (way leaf).source.plan.cap (passed (way leaf))
-  map_flow _ = []
+  map_flow (mapped_values f m) = flat_map (map_value_gives (image f)) (map_flow m)
 
   abbrev mutual
     pub list_flow : VecTree L → List (VecDiff ℤ)
@@ -103,6 +115,8 @@ module _ {L : Type 0} (way : L → Way) where
     list_flow (picked e bank) =
         given_list (pick_gives (record { chooser = value_of old e; parts = lists_of old bank })) (value_flow e)
         ++ chosen (list_flows bank) (value_of new e) []
+    list_flow (keys_in m) = of_map keys_gives (entries_of old m) (map_flow m)
+    list_flow (values_in m) = of_map values_gives (entries_of old m) (map_flow m)
     list_flow _ = []
 
     -- the value that a signal gives, where it gives one
@@ -115,7 +129,7 @@ module _ {L : Type 0} (way : L → Way) where
         (option_and_then (switch_gives (record { chooser = value_of old e; parts = signals_of old bank }) 0) (value_flow e))
     value_flow (length_of e) = given (pos (length (list_of old e))) (pos (length (list_of new e)))
     value_flow (total_of e) = given (clamped (total (list_of old e))) (clamped (total (list_of new e)))
-    value_flow _ = None
+    value_flow (at_key key default m) = given (unwrap_or (value_at key (entries_of old m)) default) (unwrap_or (value_at key (entries_of new m)) default)
 
     -- what each part of a bank gives
     pub value_flows : SigTrees L → List (Option ℤ)
@@ -131,7 +145,7 @@ module _ {L : Type 0} (way : L → Way) where
   flow (signal_view e) = body.Signal (value_flow e)
   flow (vector_view e) = body.Vector (list_flow e)
   flow (map_view m) = body.Map (map_flow m)
-  flow (entries_view m) = body.Pairs []
+  flow (entries_view m) = body.Pairs (of_map entries_gives (entries_of old m) (map_flow m))
   flow (tagged_view e) = body.Vector (list_flow e)
 
 -- what a view gives whose elements have tags, and the tags after that

@@ -1,16 +1,19 @@
 -- The operators of a view as trees beside its expression, and when they stand for contents of the leaves.
 use Rattle.std.specs.Prelude.{◌≡◌, ℕ, ℤ, List, length, Bool, true, false, Option, None, Some}
 use Rattle.sig_bank.specs.Banks.{BySignals, Choice}
+use Rattle.sig_diff.specs.Entries.{value_at}
 use Rattle.sig_diff.specs.Sorting.{by_key, in_order}
 use Rattle.sig_diff.specs.declared.contents.Content.{Content}
 use Rattle.sig_expr.specs.Functions.{image}
-use Rattle.sig_expr.specs.Scratch.{list_of, lists_of, signals_of, value_of}
-use Rattle.sig_expr.specs.Trees.{SigTree, cell, mapped_signal, deduped, switched, length_of, total_of, VecTree, vector, mapped, filtered, filtered_by, mapped_by, sorted, picked, SigTrees, no_signals, more_signals, VecTrees, no_lists, more_lists, map_source, ViewTree, signal_view, vector_view, map_view, tagged_view}
+use Rattle.sig_expr.specs.Scratch.{entries_of, list_of, lists_of, signals_of, value_of}
+use Rattle.sig_expr.specs.Trees.{SigTree, cell, mapped_signal, deduped, switched, length_of, total_of, at_key, VecTree, vector, mapped, filtered, filtered_by, mapped_by, sorted, picked, keys_in, values_in, SigTrees, no_signals, more_signals, VecTrees, no_lists, more_lists, MapTree, map_source, mapped_values, ViewTree, signal_view, vector_view, map_view, entries_view, tagged_view}
 use Rattle.sig_expr.specs.declared.functions.Fun.{Fun}
 use Rattle.sig_expr.specs.declared.functions.Pred.{Pred}
+use Rattle.sig_maps.specs.Keys.{KeyView}
 use Rattle.sig_ops.specs.Enumerating.{Enumeration, IsEnumeration}
 use Rattle.sig_ops.specs.Filters.{Filter}
 use Rattle.sig_sort.specs.Sorted.{SortedList}
+use Rattle.sig_view.specs.declared.nodes.MapNode.{MapNode, MapNode-F, fold-MapNode}
 use Rattle.sig_view.specs.declared.nodes.ListNode.{ListNode, ListNode-F, fold-ListNode}
 use Rattle.sig_view.specs.declared.nodes.SignalNode.{SignalNode, SignalNode-F, fold-SignalNode}
 use Rattle.sig_view.specs.declared.nodes.SignalBank.{SignalBank, SignalBank-F, fold-SignalBank}
@@ -30,6 +33,8 @@ mutual
     let_in : BySignals → ListOps → SignalsOps → ListOps
     raised : BySignals → ListOps → SignalsOps → ListOps
     pick_of : Choice (List ℤ) → SignalOps → ListsOps → ListOps
+    keys_by : List (ℤ × ℤ) → MapTree ℕ → ListOps
+    values_by : List (ℤ × ℤ) → MapTree ℕ → ListOps
 
   -- a signal's
   pub data SignalOps : Type 0 where
@@ -39,6 +44,7 @@ mutual
     switch_of : Choice ℤ → SignalOps → SignalsOps → SignalOps
     count_of : ℕ → ListOps → SignalOps
     sum_of : List ℤ → ListOps → SignalOps
+    value_at_key : KeyView → MapTree ℕ → SignalOps
 
   -- those of a bank's parts
   pub data SignalsOps : Type 0 where
@@ -57,6 +63,14 @@ abbrev pub has_no_list : ListsOps → Bool
 has_no_list no_list = true
 has_no_list (one_list ops bank) = false
 
+-- a map's operators keep nothing: they are the expression that they work on
+abbrev pub map_step : MapNode-F (MapTree ℕ) → MapTree ℕ
+map_step (MapNode-F.Source leaf) = map_source leaf
+map_step (MapNode-F.Value fun of) = mapped_values fun of.value
+
+abbrev pub map_ops : MapNode → MapTree ℕ
+map_ops = fold-MapNode (MapTree ℕ) map_step
+
 abbrev pub list_step : ListNode-F ListsOps ListOps SignalsOps SignalOps → ListOps
 list_step (ListNode-F.Source leaf) = source leaf
 list_step (ListNode-F.ListNode::Map fun of) = images fun of.value
@@ -65,6 +79,8 @@ list_step (ListNode-F.Sorted list of) = ordered list of.value
 list_step (ListNode-F.FilterBy by of bank) = let_in by of.value bank.value
 list_step (ListNode-F.MapBy by of bank) = raised by of.value bank.value
 list_step (ListNode-F.Pick choice of bank) = pick_of choice of.value bank.value
+list_step (ListNode-F.Keys entries of) = keys_by entries (map_ops of)
+list_step (ListNode-F.Values entries of) = values_by entries (map_ops of)
 
 abbrev pub signal_step : SignalNode-F ListsOps ListOps SignalsOps SignalOps → SignalOps
 signal_step (SignalNode-F.Cell leaf) = number leaf
@@ -73,6 +89,7 @@ signal_step (SignalNode-F.Dedupe last of) = without_repeats last of.value
 signal_step (SignalNode-F.Switch choice of bank) = switch_of choice of.value bank.value
 signal_step (SignalNode-F.Len len of) = count_of len of.value
 signal_step (SignalNode-F.Sum items of) = sum_of items of.value
+signal_step (SignalNode-F.Key key of) = value_at_key key (map_ops of)
 
 abbrev pub signals_step : SignalBank-F ListsOps ListOps SignalsOps SignalOps → SignalsOps
 signals_step SignalBank-F.SignalBank::Empty = no_signal
@@ -105,6 +122,8 @@ abbrev mutual
   list_tree (let_in by ops bank) = filtered_by (list_tree ops) (signal_trees bank)
   list_tree (raised by ops bank) = mapped_by (list_tree ops) (signal_trees bank)
   list_tree (pick_of choice ops bank) = picked (signal_tree ops) (list_trees bank)
+  list_tree (keys_by entries m) = keys_in m
+  list_tree (values_by entries m) = values_in m
 
   pub signal_tree : SignalOps → SigTree ℕ
   signal_tree (number leaf) = cell leaf
@@ -113,6 +132,7 @@ abbrev mutual
   signal_tree (switch_of choice ops bank) = switched (signal_tree ops) (signal_trees bank)
   signal_tree (count_of len ops) = length_of (list_tree ops)
   signal_tree (sum_of items ops) = total_of (list_tree ops)
+  signal_tree (value_at_key key m) = at_key key.key key.default m
 
   pub signal_trees : SignalsOps → SigTrees ℕ
   signal_trees no_signal = no_signals
@@ -137,6 +157,8 @@ abbrev mutual
       (by.items ≡ list_of s (list_tree ops)) × (by.signals ≡ signals_of s (signal_trees bank)) × ListStands s ops × SignalsStand s bank
   ListStands s (pick_of choice ops bank) =
       (choice.chooser ≡ value_of s (signal_tree ops)) × (choice.parts ≡ lists_of s (list_trees bank)) × SignalStands s ops × ListsStand s bank
+  ListStands s (keys_by entries m) = entries ≡ entries_of s m
+  ListStands s (values_by entries m) = entries ≡ entries_of s m
 
   pub SignalStands : (ℕ → Content) → SignalOps → Type 0
   SignalStands s (number leaf) = Unit {0}
@@ -146,6 +168,7 @@ abbrev mutual
       (choice.chooser ≡ value_of s (signal_tree ops)) × (choice.parts ≡ signals_of s (signal_trees bank)) × SignalStands s ops × SignalsStand s bank
   SignalStands s (count_of len ops) = (len ≡ length (list_of s (list_tree ops))) × ListStands s ops
   SignalStands s (sum_of items ops) = (items ≡ list_of s (list_tree ops)) × ListStands s ops
+  SignalStands s (value_at_key key m) = key.value ≡ value_at key.key (entries_of s m)
 
   pub SignalsStand : (ℕ → Content) → SignalsOps → Type 0
   SignalsStand s no_signal = Unit {0}
@@ -160,25 +183,29 @@ abbrev mutual
 pub data ViewOps : Type 0 where
   signal : SignalOps → ViewOps
   list : ListOps → ViewOps
-  map : ℕ → ViewOps
+  map : MapTree ℕ → ViewOps
+  pairs_by : List (ℤ × ℤ) → MapTree ℕ → ViewOps
   tagged : Enumeration → ListOps → ViewOps
 
 abbrev pub view_ops : ViewNode → ViewOps
 view_ops (node.Signal of) = signal (signal_ops of)
 view_ops (node.Vector of) = list (list_ops of)
-view_ops (node.Map leaf) = map leaf
+view_ops (node.Map of) = map (map_ops of)
+view_ops (node.Entries pairs of) = pairs_by pairs (map_ops of)
 view_ops (node.Enumerate op of) = tagged op (list_ops of)
 
 abbrev pub view_tree_of : ViewOps → ViewTree ℕ
 view_tree_of (signal ops) = signal_view (signal_tree ops)
 view_tree_of (list ops) = vector_view (list_tree ops)
-view_tree_of (map leaf) = map_view (map_source leaf)
+view_tree_of (map m) = map_view m
+view_tree_of (pairs_by pairs m) = entries_view m
 view_tree_of (tagged op ops) = tagged_view (list_tree ops)
 
 abbrev pub ViewStands : (ℕ → Content) → ViewOps → Type 0
 ViewStands s (signal ops) = SignalStands s ops
 ViewStands s (list ops) = ListStands s ops
-ViewStands s (map leaf) = Unit {0}
+ViewStands s (map m) = Unit {0}
+ViewStands s (pairs_by pairs m) = pairs ≡ entries_of s m
 ViewStands s (tagged op ops) = IsEnumeration op (list_of s (list_tree ops)) × ListStands s ops
 
 -- the elements with their tags, where a view's elements have tags

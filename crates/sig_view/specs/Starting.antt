@@ -1,17 +1,22 @@
 -- The operators of a view as they are started on the contents of its leaves.
-use Rattle.std.specs.Prelude.{◌≡◌, ℕ, ℤ, List, [], ◌∷◌, length}
-use Rattle.sig_diff.specs.Contents.{list_in}
+use Rattle.std.specs.Prelude.{◌≡◌, ℕ, ◌+◌, ℤ, List, [], ◌∷◌, length}
+use Rattle.sig_diff.specs.Contents.{entries_in, list_in}
 use Rattle.sig_diff.specs.declared.contents.Content.{Content}
-use Rattle.sig_expr.specs.Scratch.{list_of, lists_of, signals_of, value_of}
-use Rattle.sig_expr.specs.Trees.{SigTree, SigTrees, VecTree, VecTrees, ViewTree}
+use Rattle.sig_expr.specs.Scratch.{entries_of, list_of, lists_of, signals_of, value_of}
+use Rattle.sig_expr.specs.Trees.{MapTree, SigTree, SigTrees, VecTree, VecTrees, ViewTree}
 use Rattle.sig_view.specs.Flow.{first_body}
 use Rattle.sig_view.specs.Nodes.{ListOps, ListsOps, SignalOps, SignalsOps, ViewOps, ListStands, ListsStand, SignalStands, SignalsStand, ViewStands, list_tree, list_trees, no_list, no_signal, one_list, one_signal, op_tags, signal_tree, signal_trees, view_tree_of}
 use Rattle.sig_view.specs.SoundRows.{nothing_seen, seen_after, tags_of}
 use Rattle.sig_view.specs.declared.rows.Body.{Body}
 
--- how long the list of each leaf is
-abbrev pub list_length : (ℕ → Content) → ℕ → ℕ
-list_length s leaf = length (list_in (s leaf))
+-- how long the list or the map of each leaf is
+abbrev pub leaf_length : (ℕ → Content) → ℕ → ℕ
+leaf_length s leaf = length (list_in (s leaf)) + length (entries_in (s leaf))
+
+-- a map's operators are those of this expression, and these are its entries
+pub record IsMapStarted (s : ℕ → Content) (tree : MapTree ℕ) (m : MapTree ℕ) (entries : List (ℤ × ℤ)) : Type 0 where
+  pub tree_is : m ≡ tree
+  pub entries_are : entries ≡ entries_of s tree
 
 -- a list's operators stand for these contents, and these are its items
 pub record IsListStarted (s : ℕ → Content) (tree : VecTree ℕ) (ops : ListOps) (items : List ℤ) : Type 0 where

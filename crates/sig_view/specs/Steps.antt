@@ -1,11 +1,14 @@
 -- What a step of operators along a walk needs, and what it leaves: of a list's, of a signal's, and of a bank's.
 use Rattle.std.specs.Prelude.{◌≡◌, ℕ, ◌≤◌, ℤ, List, [], ◌++◌, get_or, Option, None}
 use Rattle.sig_diff.specs.declared.differences.VecDiff.{VecDiff}
+use Rattle.sig_diff.specs.declared.map_differences.MapDiff.{MapDiff}
 use Rattle.sig_expr.specs.Awaited.{all_of, each_sig_awaits, each_vec_awaits, sig_awaits, vec_awaits}
-use Rattle.sig_expr.specs.Leaves.{sig_leaves, sigs_leaves, vec_leaves, vecs_leaves}
+use Rattle.sig_expr.specs.Bounds.{map_bound}
+use Rattle.sig_expr.specs.Trees.{MapTree}
+use Rattle.sig_expr.specs.Leaves.{map_leaves, sig_leaves, sigs_leaves, vec_leaves, vecs_leaves}
 use Rattle.sig_hist.specs.Ports.{PortState}
 use Rattle.sig_hist.specs.Sources.{AreDistinct}
-use Rattle.sig_view.specs.Flow.{list_flow, list_flows, value_flow, value_flows}
+use Rattle.sig_view.specs.Flow.{list_flow, list_flows, map_flow, value_flow, value_flows}
 use Rattle.sig_view.specs.Longest.{sig_longest, sigs_longest, vec_longest, vecs_longest}
 use Rattle.sig_view.specs.Nodes.{ListOps, ListStands, ListsOps, ListsStand, SignalOps, SignalStands, SignalsOps, SignalsStand, list_tree, list_trees, signal_tree, signal_trees}
 use Rattle.sig_view.specs.SoundRows.{contents_at, ways}
@@ -43,6 +46,12 @@ module _ (s : PortState) (walk : Progress) where
     pub short : vecs_longest (cap_at (sources_in s walk)) (list_trees bank) ≤ 65536
     pub stands : ListsStand (contents_at (sources_in s walk) walk.positions) bank
 
+  -- a map's operators keep nothing
+  pub record MapMayGo (m : MapTree ℕ) : Type 0 where
+    pub can : CanWalk s walk
+    pub has : HasLeaves walk (map_leaves m)
+    pub short : map_bound (cap_at (sources_in s walk)) m ≤ 65536
+
 -- ---- after
 
 -- the awaited leaves were taken along, this is what is given on the way, and the operators stand for what the leaves hold now
@@ -60,6 +69,11 @@ module _ (s t : PortState) (old new : Progress) where
     pub flow : value ≡ value_flow (ways (sources_in t new) old.positions new.positions) (signal_tree ops)
     pub stands : SignalStands (contents_at (sources_in t new) new.positions) after
     pub tree : signal_tree after ≡ signal_tree ops
+
+  pub record MapGone (m : MapTree ℕ) (diffs : List (MapDiff ℤ)) : Type 0 where
+    pub gone : HasGone s t old new
+    pub walked : HasWalked s t old new (map_leaves m)
+    pub flow : diffs ≡ map_flow (ways (sources_in t new) old.positions new.positions) m
 
   -- all signals of a bank, whose values come behind others; the signal at a place; the list at a place
   pub record SignalsGone (bank after : SignalsOps) (before values : List (Option ℤ)) : Type 0 where

@@ -5,6 +5,7 @@ mod banks;
 mod choosing;
 mod fetching;
 mod lists;
+mod maps;
 mod nodes;
 mod rows;
 mod signals;

@@ -11,6 +11,7 @@ ghost use Rattle.sig_view.specs.Steps.{ListGone, ListMayGo};
 ghost use Rattle.sig_view.specs.Walking.{HasGone, list_entered};
 
 use crate::choosing::{chosen_anew, filtered_by, mapped_by, picked};
+use crate::maps::{keys, values};
 use crate::nodes::ListNode;
 use crate::walk::Walk;
 use sig_diff::{Diffs, NoMemory};
@@ -69,6 +70,14 @@ impl ListNode {
                 let place = op.chosen();
                 let diffs = bank.step_at(place, alloc, port, walk)?;
                 picked(op, place, &diffs, given)
+            }
+            ListNode::Keys(op, of) => {
+                let diffs = of.step(alloc, port, walk)?;
+                keys(alloc, op, &diffs)
+            }
+            ListNode::Values(op, of) => {
+                let diffs = of.step(alloc, port, walk)?;
+                values(alloc, op, &diffs)
             }
         }
     }

@@ -1,7 +1,16 @@
 use sig_bank::{FilterBy, MapBy, Pick, Switch};
 use sig_expr::{Fun, Pred};
+use sig_maps::{EntriesOp, KeyOf, KeysOp, MapValue, ValuesOp};
 use sig_ops::{Dedupe, EnumerateOp, FilterOp, LenOp, MapOp, SumOp};
 use sig_sort::SortedOp;
+
+/// A map's operators.
+#[derive(Debug, Drop)]
+pub enum MapNode {
+    /// A map, by its leaf's number.
+    Source(usize),
+    Value(MapValue<Fun>, Box<MapNode>),
+}
 
 /// A list's operators, each with what it has to keep of the parts below it.
 #[cycle(tree)]
@@ -15,6 +24,8 @@ pub enum ListNode {
     FilterBy(FilterBy, Box<ListNode>, Box<SignalBank>),
     MapBy(MapBy, Box<ListNode>, Box<SignalBank>),
     Pick(Pick, Box<SignalNode>, Box<ListBank>),
+    Keys(KeysOp, MapNode),
+    Values(ValuesOp, MapNode),
 }
 
 /// A signal's operators.
@@ -28,6 +39,7 @@ pub enum SignalNode {
     Switch(Switch, Box<SignalNode>, Box<SignalBank>),
     Len(LenOp, Box<ListNode>),
     Sum(SumOp, Box<ListNode>),
+    Key(KeyOf, MapNode),
 }
 
 /// The signals of a bank, from left to right.
@@ -51,7 +63,7 @@ pub enum ListBank {
 pub enum ViewNode {
     Signal(SignalNode),
     Vector(ListNode),
-    /// A map, by its leaf's number.
-    Map(usize),
+    Map(MapNode),
+    Entries(EntriesOp, MapNode),
     Enumerate(EnumerateOp, ListNode),
 }

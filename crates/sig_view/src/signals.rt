@@ -56,6 +56,10 @@ impl SignalNode {
                 let diffs = of.step(alloc, port, walk)?;
                 op.step(&diffs)
             }
+            SignalNode::Key(op, of) => {
+                let diffs = of.step(alloc, port, walk)?;
+                Ok(op.step(&diffs))
+            }
         }
     }
 }

@@ -1,26 +1,31 @@
-ghost use Rattle.std.specs.Prelude.{◌≡◌, ◌∷◌, [], ◌≤◌, ◌+◌, Some, length, map, IfOk};
+ghost use Rattle.std.specs.Prelude.{◌≡◌, ◌∷◌, [], ◌≤◌, ◌<◌, ◌+◌, Some, length, map, IfOk};
 ghost use Rattle.std.specs.List.{All};
 ghost use Rattle.sig_diff.specs.Contents.{number_in, list_in, entries_in};
-ghost use Rattle.sig_expr.specs.Leaves.{leaves, number_sig, number_sigs, number_vec, number_vecs, numbered, sig_leaves, sigs_leaves, vec_leaves, vecs_leaves};
-ghost use Rattle.sig_expr.specs.Shapes.{sig_tree, sig_trees, vec_tree, vec_trees, view_tree};
+ghost use Rattle.sig_diff.specs.Entries.{values_mapped};
+ghost use Rattle.sig_expr.specs.Functions.{image};
+ghost use Rattle.sig_expr.specs.Leaves.{leaves, number_map, number_sig, number_sigs, number_vec, number_vecs, numbered, sig_leaves, sigs_leaves, vec_leaves, vecs_leaves};
+ghost use Rattle.sig_expr.specs.Shapes.{map_tree, sig_tree, sig_trees, vec_tree, vec_trees, view_tree};
+ghost use Rattle.sig_expr.specs.Trees.{mapped_values};
 ghost use Rattle.sig_view.specs.Built.{AreListsBuilt, AreSignalsBuilt, IsBuilt, IsListBuilt, IsSignalBuilt};
 ghost use Rattle.sig_view.specs.Fetching.{content_in};
 ghost use Rattle.sig_view.specs.Longest.{longest, sig_longest, sigs_longest, vec_longest, vecs_longest};
 ghost use Rattle.sig_ops.specs.Enumerating.{enumeration_of, tagged_from};
-ghost use Rattle.sig_view.specs.Nodes.{list_ops, lists_ops, signal_ops, signals_ops, tagged, view_ops};
-ghost use Rattle.sig_view.specs.Starting.{AreListsStarted, AreSignalsStarted, IsListStarted, IsSignalStarted, IsViewStarted, list_length};
+ghost use Rattle.sig_view.specs.Nodes.{list_ops, lists_ops, map_ops, pairs_by, signal_ops, signals_ops, tagged, view_ops};
+ghost use Rattle.sig_view.specs.Starting.{AreListsStarted, AreSignalsStarted, IsListStarted, IsMapStarted, IsSignalStarted, IsViewStarted, leaf_length};
 
-use crate::nodes::{ListBank, ListNode, SignalBank, SignalNode, ViewNode};
+use crate::nodes::{ListBank, ListNode, MapNode, SignalBank, SignalNode, ViewNode};
 use crate::rows::Body;
 use crate::starting_banks::{list_bank, signal_bank};
 use crate::starting_lists::{
-    list_filtered, list_filtered_by, list_mapped, list_mapped_by, list_picked, list_sorted,
+    list_filtered, list_filtered_by, list_keys, list_mapped, list_mapped_by, list_picked,
+    list_sorted, list_values,
 };
 use crate::starting_signals::{
-    signal_deduped, signal_len, signal_mapped, signal_sum, signal_switched,
+    signal_deduped, signal_key, signal_len, signal_mapped, signal_sum, signal_switched,
 };
 use sig_diff::{Content, Diffs, Entries, Items, Lists, MapDiff, MapDiffs, NoMemory, VecDiff};
-use sig_expr::{MapExpr, SigExpr, VecExpr, View, list_leaves, signal_leaves};
+use sig_expr::{Fun, MapExpr, SigExpr, VecExpr, View, list_leaves, signal_leaves};
+use sig_maps::{EntriesOp, MapValue};
 use sig_ops::{EnumerateOp, VecOp};
 use std::alloc::Global;
 
@@ -60,6 +65,42 @@ fn entries_at(
     }
 }
 
+// ---- maps
+
+/// A map's operators, started on what its leaf holds, and its entries. Its leaf has this number.
+fn map_node(
+    alloc: Global,
+    map: &MapExpr,
+    contents: &[Option<Content>],
+    leaf: usize,
+) -> Result<(MapNode, Entries<i64>), NoMemory>
+    requires room { leaf < length contents.now }
+    ensures started { IfOk result (λ made. IsMapStarted (content_in contents.now) (number_map (map_tree map.now) leaf) (map_ops made.0) made.1) }
+{
+    match map {
+        MapExpr::Map(_) => Ok((MapNode::Source(leaf), entries_at(alloc, contents, leaf)?)),
+        MapExpr::MapValue(fun, of) => {
+            let (of, entries) = map_node(alloc, of.get(), contents, leaf)?;
+            map_mapped(alloc, *fun, of, entries)
+        }
+    }
+}
+
+/// A map with a function at its values.
+fn map_mapped(
+    alloc: Global,
+    fun: Fun,
+    of: MapNode,
+    entries: Entries<i64>,
+) -> Result<(MapNode, Entries<i64>), NoMemory>
+    ensures ops { IfOk result (λ made. map_ops made.0 ≡ mapped_values fun (map_ops of)) }
+    ensures entries { IfOk result (λ made. made.1 ≡ values_mapped (image fun) entries) }
+{
+    let mut op = MapValue::new(alloc, fun);
+    let mapped = op.start(&entries)?;
+    Ok((MapNode::Value(op, Box::new(alloc, of)?), mapped))
+}
+
 // ---- lists
 
 /// A list's operators, started on what its leaves hold, and its items. Its leaves have the numbers from `leaf` on.
@@ -72,7 +113,7 @@ fn list_node(
 ) -> Result<(ListNode, Items<i64>), NoMemory>
     requires built { IsListBuilt (vec_tree list.now) }
     requires room { leaf + length (vec_leaves (vec_tree list.now)) ≤ length contents.now }
-    requires short { vec_longest (list_length (content_in contents.now)) (number_vec (vec_tree list.now) leaf) ≤ 65536 }
+    requires short { vec_longest (leaf_length (content_in contents.now)) (number_vec (vec_tree list.now) leaf) ≤ 65536 }
     ensures started { IfOk result (λ made. IsListStarted (content_in contents.now) (number_vec (vec_tree list.now) leaf) (list_ops made.0) made.1) }
     ensures short { IfOk result (λ made. length made.1 ≤ 65536) }
 {
@@ -108,6 +149,14 @@ fn list_node(
             let (bank, lists) = list_bank_nodes(alloc, bank.as_slice(), contents, behind)?;
             list_picked(alloc, of, chooser, bank, lists)
         }
+        VecExpr::Keys(of) => {
+            let (of, entries) = map_node(alloc, of.get(), contents, leaf)?;
+            list_keys(alloc, of, entries)
+        }
+        VecExpr::Values(of) => {
+            let (of, entries) = map_node(alloc, of.get(), contents, leaf)?;
+            list_values(alloc, of, entries)
+        }
         _ => unreachable!(),
     }
 }
@@ -122,7 +171,7 @@ fn list_bank_nodes(
 ) -> Result<(ListBank, Lists), NoMemory>
     requires built { AreListsBuilt (vec_trees (map vec_tree bank.now)) }
     requires room { leaf + length (vecs_leaves (vec_trees (map vec_tree bank.now))) ≤ length contents.now }
-    requires short { vecs_longest (list_length (content_in contents.now)) (number_vecs (vec_trees (map vec_tree bank.now)) leaf) ≤ 65536 }
+    requires short { vecs_longest (leaf_length (content_in contents.now)) (number_vecs (vec_trees (map vec_tree bank.now)) leaf) ≤ 65536 }
     ensures started { IfOk result (λ made. AreListsStarted (content_in contents.now) (number_vecs (vec_trees (map vec_tree bank.now)) leaf) (lists_ops made.0) made.1) }
     ensures short { IfOk result (λ made. All (λ items. length items ≤ 65536) made.1) }
 {
@@ -150,7 +199,7 @@ fn signal_node(
 ) -> Result<(SignalNode, i64), NoMemory>
     requires built { IsSignalBuilt (sig_tree signal.now) }
     requires room { leaf + length (sig_leaves (sig_tree signal.now)) ≤ length contents.now }
-    requires short { sig_longest (list_length (content_in contents.now)) (number_sig (sig_tree signal.now) leaf) ≤ 65536 }
+    requires short { sig_longest (leaf_length (content_in contents.now)) (number_sig (sig_tree signal.now) leaf) ≤ 65536 }
     ensures { IfOk result (λ made. IsSignalStarted (content_in contents.now) (number_sig (sig_tree signal.now) leaf) (signal_ops made.0) made.1) }
 {
     match signal {
@@ -177,7 +226,10 @@ fn signal_node(
             let (of, items) = list_node(alloc, of.get(), contents, leaf)?;
             signal_sum(alloc, of, items)
         }
-        _ => unreachable!(),
+        SigExpr::Key(key, default, of) => {
+            let (of, entries) = map_node(alloc, of.get(), contents, leaf)?;
+            Ok(signal_key(*key, *default, of, &entries))
+        }
     }
 }
 
@@ -191,7 +243,7 @@ fn signal_bank_nodes(
 ) -> Result<(SignalBank, Items<i64>), NoMemory>
     requires built { AreSignalsBuilt (sig_trees (map sig_tree bank.now)) }
     requires room { leaf + length (sigs_leaves (sig_trees (map sig_tree bank.now))) ≤ length contents.now }
-    requires short { sigs_longest (list_length (content_in contents.now)) (number_sigs (sig_trees (map sig_tree bank.now)) leaf) ≤ 65536 }
+    requires short { sigs_longest (leaf_length (content_in contents.now)) (number_sigs (sig_trees (map sig_tree bank.now)) leaf) ≤ 65536 }
     ensures { IfOk result (λ made. AreSignalsStarted (content_in contents.now) (number_sigs (sig_trees (map sig_tree bank.now)) leaf) (signals_ops made.0) made.1) }
 {
     let mut nodes = Vec::new(alloc);
@@ -216,7 +268,7 @@ pub fn view_node(
 ) -> Result<(ViewNode, Body), NoMemory>
     requires built { IsBuilt (view_tree view.now) }
     requires room { length (leaves (view_tree view.now)) ≤ length contents.now }
-    requires short { longest (list_length (content_in contents.now)) (numbered (view_tree view.now)) ≤ 65536 }
+    requires short { longest (leaf_length (content_in contents.now)) (numbered (view_tree view.now)) ≤ 65536 }
     ensures { IfOk result (λ made. IsViewStarted (content_in contents.now) (numbered (view_tree view.now)) (view_ops made.0) made.1) }
 {
     match view {
@@ -231,9 +283,13 @@ pub fn view_node(
                 Body::Vector(all_items(alloc, values)?),
             ))
         }
-        View::Map(MapExpr::Map(_)) => {
-            let entries = entries_at(alloc, contents, 0)?;
-            Ok((ViewNode::Map(0), Body::Map(all_entries(alloc, entries)?)))
+        View::Map(of) => {
+            let (node, entries) = map_node(alloc, of, contents, 0)?;
+            Ok((ViewNode::Map(node), Body::Map(all_entries(alloc, entries)?)))
+        }
+        View::Entries(of) => {
+            let (node, entries) = map_node(alloc, of, contents, 0)?;
+            view_entries(alloc, node, entries)
         }
         View::Enumerate(of) => {
             let (node, items) = list_node(alloc, of, contents, 0)?;
@@ -241,6 +297,23 @@ pub fn view_node(
         }
         _ => unreachable!(),
     }
+}
+
+/// The entries of a map as a list.
+fn view_entries(
+    alloc: Global,
+    of: MapNode,
+    entries: Entries<i64>,
+) -> Result<(ViewNode, Body), NoMemory>
+    ensures ops { IfOk result (λ made. view_ops made.0 ≡ pairs_by entries (map_ops of)) }
+    ensures body { IfOk result (λ made. made.1 ≡ Body.Pairs (VecDiff.Replace entries ∷ [])) }
+{
+    let mut op = EntriesOp::new(alloc);
+    let values = op.start(&entries)?;
+    Ok((
+        ViewNode::Entries(op, of),
+        Body::Pairs(all_items(alloc, values)?),
+    ))
 }
 
 /// A list with tags, and the body of its first row.

@@ -1,15 +1,17 @@
 ghost use Rattle.std.specs.Prelude.{◌≡◌, ◌≤◌, length, map, filter, IfOk};
 ghost use Rattle.std.specs.List.{All};
 ghost use Rattle.sig_diff.specs.Choosing.{is_let_in, list_for, raised_by};
+ghost use Rattle.sig_diff.specs.Entries.{keys_of, values_of};
 ghost use Rattle.sig_diff.specs.Sorting.{by_key, in_order};
 ghost use Rattle.sig_expr.specs.Functions.{image, passes};
 ghost use Rattle.sig_sort.specs.Sorted.{sorted_of};
-ghost use Rattle.sig_view.specs.Nodes.{images, kept, let_in, list_ops, lists_ops, ordered, pick_of, raised, signal_ops, signals_ops};
+ghost use Rattle.sig_view.specs.Nodes.{images, kept, keys_by, let_in, list_ops, lists_ops, map_ops, ordered, pick_of, raised, signal_ops, signals_ops, values_by};
 
-use crate::nodes::{ListBank, ListNode, SignalBank, SignalNode};
+use crate::nodes::{ListBank, ListNode, MapNode, SignalBank, SignalNode};
 use sig_bank::{FilterBy, MapBy, Pick};
-use sig_diff::{Items, Lists, NoMemory};
+use sig_diff::{Entries, Items, Lists, NoMemory};
 use sig_expr::{Fun, Pred};
+use sig_maps::{KeysOp, ValuesOp};
 use sig_ops::{FilterOp, MapOp, VecOp};
 use sig_sort::SortedOp;
 use std::alloc::Global;
@@ -123,4 +125,36 @@ pub fn list_picked(
     let chosen = op.start(chooser, &lists)?;
     let of = Box::new(alloc, of)?;
     Ok((ListNode::Pick(op, of, Box::new(alloc, bank)?), chosen))
+}
+
+/// The keys of a map.
+pub fn list_keys(
+    alloc: Global,
+    of: MapNode,
+    entries: Entries<i64>,
+) -> Result<(ListNode, Items<i64>), NoMemory>
+    requires short { length entries ≤ 65536 }
+    ensures ops { IfOk result (λ made. list_ops made.0 ≡ keys_by entries (map_ops of)) }
+    ensures items { IfOk result (λ made. made.1 ≡ keys_of entries) }
+    ensures short { IfOk result (λ made. length made.1 ≤ 65536) }
+{
+    let mut op = KeysOp::new(alloc);
+    let keys = op.start(&entries)?;
+    Ok((ListNode::Keys(op, of), keys))
+}
+
+/// The values of a map.
+pub fn list_values(
+    alloc: Global,
+    of: MapNode,
+    entries: Entries<i64>,
+) -> Result<(ListNode, Items<i64>), NoMemory>
+    requires short { length entries ≤ 65536 }
+    ensures ops { IfOk result (λ made. list_ops made.0 ≡ values_by entries (map_ops of)) }
+    ensures items { IfOk result (λ made. made.1 ≡ values_of entries) }
+    ensures short { IfOk result (λ made. length made.1 ≤ 65536) }
+{
+    let mut op = ValuesOp::new(alloc);
+    let values = op.start(&entries)?;
+    Ok((ListNode::Values(op, of), values))
 }

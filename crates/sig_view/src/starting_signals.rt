@@ -1,13 +1,15 @@
-ghost use Rattle.std.specs.Prelude.{◌≡◌, ◌≤◌, pos, length, IfOk};
+ghost use Rattle.std.specs.Prelude.{◌≡◌, ◌≤◌, pos, length, unwrap_or, IfOk};
 ghost use Rattle.sig_diff.specs.Choosing.{signal_for};
+ghost use Rattle.sig_diff.specs.Entries.{value_at};
 ghost use Rattle.sig_diff.specs.Numbers.{clamped, total};
 ghost use Rattle.sig_expr.specs.Functions.{image};
-ghost use Rattle.sig_view.specs.Nodes.{count_of, image_of, list_ops, signal_ops, signals_ops, sum_of, switch_of, without_repeats};
+ghost use Rattle.sig_view.specs.Nodes.{count_of, image_of, list_ops, map_ops, signal_ops, signals_ops, sum_of, switch_of, value_at_key, without_repeats};
 
-use crate::nodes::{ListNode, SignalBank, SignalNode};
+use crate::nodes::{ListNode, MapNode, SignalBank, SignalNode};
 use sig_bank::Switch;
-use sig_diff::{Items, Mapper, NoMemory};
+use sig_diff::{Entries, Items, Mapper, NoMemory};
 use sig_expr::Fun;
+use sig_maps::KeyOf;
 use sig_ops::{Dedupe, LenOp, SumOp};
 use std::alloc::Global;
 
@@ -83,4 +85,19 @@ pub fn signal_switched(
     let value = op.start(chooser, &values)?;
     let of = Box::new(alloc, of)?;
     Ok((SignalNode::Switch(op, of, Box::new(alloc, bank)?), value))
+}
+
+/// The value at a key of a map.
+pub fn signal_key(
+    key: i64,
+    default: i64,
+    of: MapNode,
+    entries: &Entries<i64>,
+) -> (SignalNode, i64)
+    ensures ops { signal_ops result.0 ≡ value_at_key (record { key = key; default = default; value = value_at key entries.now }) (map_ops of) }
+    ensures value { result.1 ≡ unwrap_or (value_at key entries.now) default }
+{
+    let mut op = KeyOf::new(key, default);
+    let value = op.start(entries);
+    (SignalNode::Key(op, of), value)
 }

@@ -14,7 +14,7 @@ ghost use Rattle.sig_view.specs.Longest.{longest};
 ghost use Rattle.sig_view.specs.Nodes.{op_tags, view_ops, view_tree_of, ViewStands};
 ghost use Rattle.sig_view.specs.Polling.{IsPoll, IsSameTask};
 ghost use Rattle.sig_view.specs.SoundRows.{contents_at, ways};
-ghost use Rattle.sig_view.specs.Starting.{IsViewStarted, list_length};
+ghost use Rattle.sig_view.specs.Starting.{IsViewStarted, leaf_length};
 ghost use Rattle.sig_view.specs.Tasks.{IsNew, IsReady, begun, contents_got, first_of, following, has_row, is_begun, is_ended, is_following, ops_of, positions_of, view_of};
 ghost use Rattle.sig_view.specs.Walking.{CanWalk, HasGone, HasLeaves, HasWalked, cap_at, set_out, sources_in};
 ghost use Rattle.sig_view.specs.declared.task.ViewTask.{ViewTask};
@@ -179,7 +179,7 @@ impl ViewTask {
     fn give_first<T: Drop>(&mut self, told: T) -> Polled<T>
         requires fetching { begun self.old.stage ≡ false }
         requires built { IsBuilt (view_tree self.old.view) }
-        requires short { longest (list_length (content_in (contents_got self.old.stage))) (view_of self.old) ≤ 65536 }
+        requires short { longest (leaf_length (content_in (contents_got self.old.stage))) (view_of self.old) ≤ 65536 }
         requires room { length (leaves (view_tree self.old.view)) ≤ length (contents_got self.old.stage) }
         ensures poll { (s t : PortState) (old : ViewTask) → HasBegun s t old self.old → self.old.walk.held ≡ None → IsPoll s t old self.new told result }
     {
@@ -203,7 +203,7 @@ impl ViewTask {
     fn first_row(&self) -> Result<(ViewNode, Row), NoMemory>
         requires fetching { begun self.now.stage ≡ false }
         requires built { IsBuilt (view_tree self.now.view) }
-        requires short { longest (list_length (content_in (contents_got self.now.stage))) (view_of self.now) ≤ 65536 }
+        requires short { longest (leaf_length (content_in (contents_got self.now.stage))) (view_of self.now) ≤ 65536 }
         requires room { length (leaves (view_tree self.now.view)) ≤ length (contents_got self.now.stage) }
         ensures at { IfOk result (λ made. made.1.at ≡ self.now.walk.positions) }
         ensures started { IfOk result (λ made. IsViewStarted (content_in (contents_got self.now.stage)) (view_of self.now) (view_ops made.0) made.1.body) }

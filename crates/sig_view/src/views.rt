@@ -9,13 +9,14 @@ ghost use Rattle.sig_view.specs.Flow.{flow, tags_after, with_tags};
 ghost use Rattle.sig_view.specs.Longest.{longest};
 ghost use Rattle.sig_view.specs.Nodes.{op_tags, view_ops, view_tree_of, ViewStands};
 ghost use Rattle.sig_view.specs.SoundRows.{contents_at, ways};
-ghost use Rattle.sig_view.specs.Walking.{CanWalk, HasGone, HasLeaves, HasWalked, cap_at, map_entered, sources_in};
+ghost use Rattle.sig_view.specs.Walking.{CanWalk, HasGone, HasLeaves, HasWalked, cap_at, sources_in};
 
+use crate::maps::pairs;
 use crate::nodes::ViewNode;
 use crate::rows::Body;
 use crate::walk::Walk;
-use sig_diff::{Diffs, MapDiffs, NoMemory, Tagged};
-use sig_hist::{Entering, Port};
+use sig_diff::{Diffs, NoMemory, Tagged};
+use sig_hist::Port;
 use sig_ops::{EnumerateOp, VecOp};
 use std::alloc::{AllocError, Global};
 
@@ -43,7 +44,11 @@ impl ViewNode {
         match self {
             ViewNode::Signal(of) => Ok(Body::Signal(of.step(alloc, port, walk)?)),
             ViewNode::Vector(of) => Ok(Body::Vector(of.step(alloc, port, walk)?)),
-            ViewNode::Map(leaf) => Ok(Body::Map(map_entered(alloc, walk.enter(port, *leaf)?))),
+            ViewNode::Map(of) => Ok(Body::Map(of.step(alloc, port, walk)?)),
+            ViewNode::Entries(op, of) => {
+                let diffs = of.step(alloc, port, walk)?;
+                Ok(Body::Pairs(pairs(alloc, op, &diffs)?))
+            }
             ViewNode::Enumerate(op, of) => {
                 let diffs = of.step(alloc, port, walk)?;
                 Ok(Body::Tagged(tagged(alloc, op, &diffs)?))
@@ -71,14 +76,4 @@ fn tagged(
         op.step(diff, &mut given)?;
     }
     Ok(given)
-}
-
-/// The differences of a map among what enters.
-fn map_entered(alloc: Global, entering: Entering) -> MapDiffs<i64>
-    ensures { result ≡ map_entered entering }
-{
-    match entering {
-        Entering::Map(diffs) => diffs,
-        _ => MapDiffs::new(alloc),
-    }
 }

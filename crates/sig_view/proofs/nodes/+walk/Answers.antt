@@ -2,10 +2,12 @@ use Rattle.std.proofs.Common.{◌≡◌, ◌∙◌, ◌-◌, suc, rules, refl, s
 use Rattle.std.proofs.lemmas.Result.{IfOk-weaker, on_ok_weaker}
 use Rattle.sig_view.proofs.Composing.{gone_again, still_gone}
 use Rattle.sig_view.proofs.ListArms.{filter_gone, filter_lawful, let_in_bank, let_in_each, let_in_few, let_in_gone, let_in_lawful, let_in_may_go, map_gone, pick_bank, pick_gone, pick_gone_empty, pick_lawful, pick_may_go, raised_bank, raised_each, raised_few, raised_gone, raised_lawful, raised_may_go, sorted_few, sorted_gone, sorted_lawful, sorted_order, sorted_short}
+use Rattle.sig_view.proofs.MapArms.{key_gone, keys_go, keys_gone, values_go, values_gone}
+use Rattle.sig_view.proofs.MapTrees.{key_ops, keys_ops, ops_of_key, ops_of_keys, ops_of_values, values_ops}
 use Rattle.sig_view.proofs.Results.{if_ok_also}
 use Rattle.sig_view.proofs.SignalArms.{all_gone, dedupe_gone, first_gone, first_list_gone, first_list_may_go, first_may_go, image_gone, length_gone, length_lawful, length_short, no_list_gone, none_at_gone, none_gone, other_gone, other_list_gone, other_lists_may_go, others_may_go, rest_may_go, switch_bank, switch_gone, switch_gone_empty, switch_may_go, total_gone, total_lawful, total_short}
 use Rattle.sig_view.proofs.Trees.{bank_ops, dedupe_ops, filter_by_ops, filter_ops, image_ops, length_ops, list_bank_ops, map_by_ops, map_ops, ops_of_dedupe, ops_of_filter, ops_of_filter_by, ops_of_image, ops_of_length, ops_of_lists, ops_of_map, ops_of_map_by, ops_of_pick, ops_of_signals, ops_of_sorted, ops_of_switch, ops_of_total, pick_ops, sorted_ops, switch_ops, total_ops}
-use Rattle.sig_view.specs.Nodes.{list_ops, lists_ops, no_list, no_signal, signal_ops, signals_ops}
+use Rattle.sig_view.specs.Nodes.{list_ops, lists_ops, map_ops as operators, no_list, no_signal, signal_ops, signals_ops}
 use Rattle.sig_view.specs.declared.nodes.ListBank
 use Rattle.sig_view.specs.declared.nodes.ListNode
 use Rattle.sig_view.specs.declared.nodes.SignalBank
@@ -161,6 +163,46 @@ ListNode::step-returns-in_ok-diffs-in-Pick-clause-taken g t c =
     let ops = pick_ops c.args.self.now c.deref_mut-in-Pick.result.now c.deref_mut-in-Pick-2.result.now c.in-Pick.op c.in-Pick.of c.in-Pick.bank c.in-Pick.is c.deref_mut-in-Pick.ensures.value c.deref_mut-in-Pick-2.ensures.value in
     if_ok_also c.picked.result _ _ _ (λ all is same. rw (ops, ops_of_pick) (pick_gone (g.P.Port.state c.args.port.now) (g.P.Port.state c.step-in-Pick.new.port) c.args.walk.now c.step-in-Pick.new.walk c.in-Pick.op (signal_ops c.deref_mut-in-Pick.result.now) (signal_ops c.step-in-Pick.new.self) (lists_ops c.deref_mut-in-Pick-2.result.now) c.in_ok-chooser-in-Pick.chooser c.in_ok-chooser-in-Pick.ensures.taken (rw ops at c.requires.may_go) c.chosen_anew.new.op c.in_ok-given-in-Pick.ensures.chooser c.in_ok-given-in-Pick.ensures.parts c.in_ok-given-in-Pick.given c.in_ok-given-in-Pick.ensures.given (g.P.Port.state c.step_at.new.port) c.step_at.new.walk c.chosen-place.result (lists_ops c.step_at.new.self) c.in_ok-diffs-in-Pick.diffs c.in_ok-diffs-in-Pick.ensures.taken c.chosen-place.ensures.place c.picked.new.op all same is)) c.picked.ensures.given c.picked.ensures.state
 
+pub ListNode::step-keys-requires-clause-lawful : goal.ListNode::step-keys-requires-clause-lawful
+ListNode::step-keys-requires-clause-lawful g t c =
+    let ops = keys_ops c.args.self.now c.in-Keys.op c.in-Keys.of c.in-Keys.is in
+    (keys_go (g.P.Port.state c.args.port.now) (g.P.Port.state c.step-in-Keys.new.port) c.args.walk.now c.step-in-Keys.new.walk (operators c.in-Keys.of) c.in_ok-diffs-in-Keys.diffs c.in_ok-diffs-in-Keys.ensures.taken c.in-Keys.op (rw ops at c.requires.may_go)).lawful
+
+pub ListNode::step-keys-requires-clause-short_map : goal.ListNode::step-keys-requires-clause-short_map
+ListNode::step-keys-requires-clause-short_map g t c =
+    let ops = keys_ops c.args.self.now c.in-Keys.op c.in-Keys.of c.in-Keys.is in
+    (keys_go (g.P.Port.state c.args.port.now) (g.P.Port.state c.step-in-Keys.new.port) c.args.walk.now c.step-in-Keys.new.walk (operators c.in-Keys.of) c.in_ok-diffs-in-Keys.diffs c.in_ok-diffs-in-Keys.ensures.taken c.in-Keys.op (rw ops at c.requires.may_go)).few
+
+pub ListNode::step-keys-requires-clause-short : goal.ListNode::step-keys-requires-clause-short
+ListNode::step-keys-requires-clause-short g t c =
+    let ops = keys_ops c.args.self.now c.in-Keys.op c.in-Keys.of c.in-Keys.is in
+    (keys_go (g.P.Port.state c.args.port.now) (g.P.Port.state c.step-in-Keys.new.port) c.args.walk.now c.step-in-Keys.new.walk (operators c.in-Keys.of) c.in_ok-diffs-in-Keys.diffs c.in_ok-diffs-in-Keys.ensures.taken c.in-Keys.op (rw ops at c.requires.may_go)).short
+
+pub ListNode::step-returns-in_ok-diffs-in-Keys-clause-taken : goal.ListNode::step-returns-in_ok-diffs-in-Keys-clause-taken
+ListNode::step-returns-in_ok-diffs-in-Keys-clause-taken g t c =
+    let ops = keys_ops c.args.self.now c.in-Keys.op c.in-Keys.of c.in-Keys.is in
+    if_ok_also c.keys.result _ _ _ (λ given is same. rw (ops, ops_of_keys) (keys_gone (g.P.Port.state c.args.port.now) (g.P.Port.state c.step-in-Keys.new.port) c.args.walk.now c.step-in-Keys.new.walk (operators c.in-Keys.of) c.in_ok-diffs-in-Keys.diffs c.in_ok-diffs-in-Keys.ensures.taken c.in-Keys.op (operators c.step-in-Keys.new.self) c.step-in-Keys.ensures.tree c.keys.new.op same given (rw ops at c.requires.may_go) is)) c.keys.ensures.given c.keys.ensures.state
+
+pub ListNode::step-values-requires-clause-lawful : goal.ListNode::step-values-requires-clause-lawful
+ListNode::step-values-requires-clause-lawful g t c =
+    let ops = values_ops c.args.self.now c.in-Values.op c.in-Values.of c.in-Values.is in
+    (values_go (g.P.Port.state c.args.port.now) (g.P.Port.state c.step-in-Values.new.port) c.args.walk.now c.step-in-Values.new.walk (operators c.in-Values.of) c.in_ok-diffs-in-Values.diffs c.in_ok-diffs-in-Values.ensures.taken c.in-Values.op (rw ops at c.requires.may_go)).lawful
+
+pub ListNode::step-values-requires-clause-short_map : goal.ListNode::step-values-requires-clause-short_map
+ListNode::step-values-requires-clause-short_map g t c =
+    let ops = values_ops c.args.self.now c.in-Values.op c.in-Values.of c.in-Values.is in
+    (values_go (g.P.Port.state c.args.port.now) (g.P.Port.state c.step-in-Values.new.port) c.args.walk.now c.step-in-Values.new.walk (operators c.in-Values.of) c.in_ok-diffs-in-Values.diffs c.in_ok-diffs-in-Values.ensures.taken c.in-Values.op (rw ops at c.requires.may_go)).few
+
+pub ListNode::step-values-requires-clause-short : goal.ListNode::step-values-requires-clause-short
+ListNode::step-values-requires-clause-short g t c =
+    let ops = values_ops c.args.self.now c.in-Values.op c.in-Values.of c.in-Values.is in
+    (values_go (g.P.Port.state c.args.port.now) (g.P.Port.state c.step-in-Values.new.port) c.args.walk.now c.step-in-Values.new.walk (operators c.in-Values.of) c.in_ok-diffs-in-Values.diffs c.in_ok-diffs-in-Values.ensures.taken c.in-Values.op (rw ops at c.requires.may_go)).short
+
+pub ListNode::step-returns-in_ok-diffs-in-Values-clause-taken : goal.ListNode::step-returns-in_ok-diffs-in-Values-clause-taken
+ListNode::step-returns-in_ok-diffs-in-Values-clause-taken g t c =
+    let ops = values_ops c.args.self.now c.in-Values.op c.in-Values.of c.in-Values.is in
+    if_ok_also c.values.result _ _ _ (λ given is same. rw (ops, ops_of_values) (values_gone (g.P.Port.state c.args.port.now) (g.P.Port.state c.step-in-Values.new.port) c.args.walk.now c.step-in-Values.new.walk (operators c.in-Values.of) c.in_ok-diffs-in-Values.diffs c.in_ok-diffs-in-Values.ensures.taken c.in-Values.op (operators c.step-in-Values.new.self) c.step-in-Values.ensures.tree c.values.new.op same given (rw ops at c.requires.may_go) is)) c.values.ensures.given c.values.ensures.state
+
 pub SignalNode::step-step-requires-in-Switch : goal.SignalNode::step-step-requires-in-Switch
 SignalNode::step-step-requires-in-Switch g t c κs within =
     let ops = switch_ops c.args.self.now c.deref_mut-in-Switch.result.now c.in-Switch.bank.value c.in-Switch.op c.in-Switch.of c.in-Switch.bank c.in-Switch.is c.deref_mut-in-Switch.ensures.value refl in
@@ -235,6 +277,12 @@ pub SignalNode::step-returns-in_ok-diffs-in-Sum-clause-taken : goal.SignalNode::
 SignalNode::step-returns-in_ok-diffs-in-Sum-clause-taken g t c =
     let ops = total_ops c.args.self.now c.deref_mut-in-Sum.result.now c.in-Sum.op c.in-Sum.of c.in-Sum.is c.deref_mut-in-Sum.ensures.value in
     if_ok_also c.step-in-Sum-2.result _ _ _ (λ given is same. rw (ops, ops_of_total) (total_gone (g.P.Port.state c.args.port.now) (g.P.Port.state c.step-in-Sum.new.port) c.args.walk.now c.step-in-Sum.new.walk (list_ops c.deref_mut-in-Sum.result.now) (list_ops c.step-in-Sum.new.self) c.in_ok-diffs-in-Sum.diffs c.in_ok-diffs-in-Sum.ensures.taken c.in-Sum.op (rw ops at c.requires.may_go) c.step-in-Sum-2.new.self given same is)) c.step-in-Sum-2.ensures.value c.step-in-Sum-2.ensures.state
+
+pub SignalNode::step-returns-in_ok-diffs-in-Key-clause-taken : goal.SignalNode::step-returns-in_ok-diffs-in-Key-clause-taken
+SignalNode::step-returns-in_ok-diffs-in-Key-clause-taken g t c =
+    let ops = key_ops c.args.self.now c.in-Key.op c.in-Key.of c.in-Key.is in
+    rw (ops, ops_of_key) (key_gone (g.P.Port.state c.args.port.now) (g.P.Port.state c.step-in-Key.new.port) c.args.walk.now c.step-in-Key.new.walk (operators c.in-Key.of) c.in_ok-diffs-in-Key.diffs c.in_ok-diffs-in-Key.ensures.taken c.in-Key.op (rw ops at c.requires.may_go) (operators c.step-in-Key.new.self) c.step-in-Key.ensures.tree
+    c.step-in-Key-2.new.self c.step-in-Key-2.result (rw c.step-in-Key-2.ensures.state refl) (rw c.step-in-Key-2.ensures.state refl) c.step-in-Key-2.ensures.law c.step-in-Key-2.ensures.value)
 
 pub SignalBank::step-step-requires : goal.SignalBank::step-step-requires
 SignalBank::step-step-requires g t c κs within =

@@ -2,7 +2,29 @@ use Rattle.std.proofs.Common.{◌≡◌, ℕ, arith, length-append, of_z, rules,
 use Rattle.std.proofs.lemmas.Grind.{common_steps}
 use Rattle.std.proofs.lemmas.List.{drop_all, drop_more}
 use Rattle.sig_view.proofs.BankStarts.{all_lists, all_signals, one_more_list, one_more_signal}
+use Rattle.sig_expr.specs.Shapes.{map_tree}
+use Rattle.sig_view.proofs.MapStarts.{key_is, keys_is, leaf_within, started_few, values_is}
 use Rattle.sig_view.proofs.starting.+start.Goals as goal
+
+pub list_node-map_node-requires : goal.list_node-map_node-requires
+list_node-map_node-requires t c =
+    let tree = keys_is c.args.list.now c.get-in-Keys.result.now c.in-Keys.of c.in-Keys.is c.get-in-Keys.ensures in record { room = leaf_within (map_tree c.get-in-Keys.result.now) c.args.leaf _ (rw tree at c.requires.room) }
+
+pub list_node-list_keys-requires : goal.list_node-list_keys-requires
+list_node-list_keys-requires t c =
+    let tree = keys_is c.args.list.now c.get-in-Keys.result.now c.in-Keys.of c.in-Keys.is c.get-in-Keys.ensures in record { short = started_few _ _ _ _ c.in_ok-of-in-Keys.ensures.started (rw tree at c.requires.short) }
+
+pub list_node-map_node-requires-in-Values : goal.list_node-map_node-requires-in-Values
+list_node-map_node-requires-in-Values t c =
+    let tree = values_is c.args.list.now c.get-in-Values.result.now c.in-Values.of c.in-Values.is c.get-in-Values.ensures in record { room = leaf_within (map_tree c.get-in-Values.result.now) c.args.leaf _ (rw tree at c.requires.room) }
+
+pub list_node-list_values-requires : goal.list_node-list_values-requires
+list_node-list_values-requires t c =
+    let tree = values_is c.args.list.now c.get-in-Values.result.now c.in-Values.of c.in-Values.is c.get-in-Values.ensures in record { short = started_few _ _ _ _ c.in_ok-of-in-Values.ensures.started (rw tree at c.requires.short) }
+
+pub signal_node-map_node-requires : goal.signal_node-map_node-requires
+signal_node-map_node-requires t c =
+    let tree = key_is c.args.signal.now c.in-Key.key c.in-Key.default c.get-in-Key.result.now c.in-Key.of c.in-Key.is c.get-in-Key.ensures in record { room = leaf_within (map_tree c.get-in-Key.result.now) c.args.leaf _ (rw tree at c.requires.room) }
 
 pub list_bank_nodes-bank-preserved : goal.list_bank_nodes-bank-preserved
 list_bank_nodes-bank-preserved t c =

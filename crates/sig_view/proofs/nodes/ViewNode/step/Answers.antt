@@ -1,6 +1,31 @@
+use Rattle.std.proofs.Common.{◌∙◌, ap}
+use Rattle.sig_maps.specs.Tables.{entries_gives}
+use Rattle.sig_view.proofs.MapArms.{map_goes, of_map_flow}
 use Rattle.sig_view.proofs.Tagging.{tagged_lawful, tagged_short, tagged_stands}
 use Rattle.sig_view.specs.Nodes.{list_ops}
+use Rattle.sig_view.specs.Nodes.{map_ops}
+use Rattle.sig_view.specs.declared.rows.Body.{Body}
 use Rattle.sig_view.proofs.nodes.ViewNode.step.Goals as goal
+
+pub pairs-requires-clause-lawful : goal.pairs-requires-clause-lawful
+pairs-requires-clause-lawful g c =
+    (map_goes (g.P.Port.state c.args.port.now) (g.P.Port.state c.step-in-Entries.new.port) c.args.walk.now c.step-in-Entries.new.walk (map_ops c.in-Entries.of) c.in_ok-diffs-in-Entries.diffs c.in_ok-diffs-in-Entries.ensures.taken c.in-Entries.op c.requires.can (rw c.in-Entries.is at c.requires.short) (rw c.in-Entries.is at c.requires.stands)).lawful
+
+pub pairs-requires-clause-short_map : goal.pairs-requires-clause-short_map
+pairs-requires-clause-short_map g c =
+    (map_goes (g.P.Port.state c.args.port.now) (g.P.Port.state c.step-in-Entries.new.port) c.args.walk.now c.step-in-Entries.new.walk (map_ops c.in-Entries.of) c.in_ok-diffs-in-Entries.diffs c.in_ok-diffs-in-Entries.ensures.taken c.in-Entries.op c.requires.can (rw c.in-Entries.is at c.requires.short) (rw c.in-Entries.is at c.requires.stands)).few
+
+pub pairs-requires-clause-short : goal.pairs-requires-clause-short
+pairs-requires-clause-short g c =
+    (map_goes (g.P.Port.state c.args.port.now) (g.P.Port.state c.step-in-Entries.new.port) c.args.walk.now c.step-in-Entries.new.walk (map_ops c.in-Entries.of) c.in_ok-diffs-in-Entries.diffs c.in_ok-diffs-in-Entries.ensures.taken c.in-Entries.op c.requires.can (rw c.in-Entries.is at c.requires.short) (rw c.in-Entries.is at c.requires.stands)).short
+
+pub returns-in_ok-pairs-in-Entries-clause-flow : goal.returns-in_ok-pairs-in-Entries-clause-flow
+returns-in_ok-pairs-in-Entries-clause-flow g c =
+    rw (c.in-Entries.is, c.in_ok-pairs-in-Entries.ensures.given) (ap Body.Pairs (of_map_flow (g.P.Port.state c.args.port.now) (g.P.Port.state c.step-in-Entries.new.port) c.args.walk.now c.step-in-Entries.new.walk (map_ops c.in-Entries.of) c.in_ok-diffs-in-Entries.diffs c.in_ok-diffs-in-Entries.ensures.taken c.in-Entries.op entries_gives c.requires.can (rw c.in-Entries.is at c.requires.stands)))
+
+pub returns-in_ok-pairs-in-Entries-clause-stands : goal.returns-in_ok-pairs-in-Entries-clause-stands
+returns-in_ok-pairs-in-Entries-clause-stands g c =
+    rw c.step-in-Entries.ensures.tree (c.in_ok-pairs-in-Entries.ensures.state ∙ (map_goes (g.P.Port.state c.args.port.now) (g.P.Port.state c.step-in-Entries.new.port) c.args.walk.now c.step-in-Entries.new.walk (map_ops c.in-Entries.of) c.in_ok-diffs-in-Entries.diffs c.in_ok-diffs-in-Entries.ensures.taken c.in-Entries.op c.requires.can (rw c.in-Entries.is at c.requires.short) (rw c.in-Entries.is at c.requires.stands)).replay)
 
 pub tagged-requires-clause-lawful : goal.tagged-requires-clause-lawful
 tagged-requires-clause-lawful g c =

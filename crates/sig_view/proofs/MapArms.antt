@@ -1,0 +1,94 @@
+-- A step of a map's lists, and of the value at one of its keys: what it needs, and what is left.
+use Rattle.std.proofs.Common.{◌≡◌, ◌∙◌, ℕ, ◌≤◌, ℤ, List, length, slice_index, Option, refl, ap}
+use Rattle.std.specs.Option.{unwrap_or}
+use Rattle.sig_diff.specs.Entries.{IsRising, value_at}
+use Rattle.sig_diff.specs.Replaying.{MapAreLawful, MapStaysShort, map_replayed}
+use Rattle.sig_diff.specs.declared.differences.VecDiff.{VecDiff}
+use Rattle.sig_diff.specs.declared.map_differences.MapDiff.{MapDiff}
+use Rattle.sig_expr.specs.Bounds.{map_bound}
+use Rattle.sig_expr.specs.Scratch.{entries_of}
+use Rattle.sig_expr.specs.Trees.{MapTree}
+use Rattle.sig_hist.specs.Ports.{PortState}
+use Rattle.sig_maps.specs.Keys.{KeyView, key_shows}
+use Rattle.sig_maps.specs.Tables.{entries_gives, keys_gives, values_gives}
+use Rattle.sig_ops.specs.Signals.{given}
+use Rattle.sig_view.proofs.ByMap.{MapGoesShort, MapLeads}
+use Rattle.sig_view.proofs.Carrying.{held_before, never_back}
+use Rattle.sig_view.proofs.Leading.{map_flow_leads}
+use Rattle.sig_view.proofs.MapShortening.{map_flow_short, seen_map_short}
+use Rattle.sig_view.proofs.Shortening.{same_caps}
+use Rattle.sig_view.specs.Flow.{map_flow, of_map}
+use Rattle.sig_view.specs.Nodes.{keys_by, value_at_key, values_by}
+use Rattle.sig_view.specs.SoundRows.{contents_at, ways}
+use Rattle.sig_view.specs.Steps.{ListGone, ListMayGo, MapGone, SignalGone, SignalMayGo}
+use Rattle.sig_view.specs.Walking.{CanWalk, Progress, cap_at, sources_in}
+
+-- what a list of the map needs for its step, and what the map's entries are then
+pub record MapGoes (entries : List (ℤ × ℤ)) (diffs : List (MapDiff ℤ)) (after : List (ℤ × ℤ)) : Type 0 where
+  pub lawful : MapAreLawful entries diffs
+  pub few : length entries ≤ 65536
+  pub short : MapStaysShort 65536 entries diffs
+  pub replay : map_replayed entries diffs ≡ after
+
+module _ (s t : PortState) (old new : Progress) (m : MapTree ℕ) (diffs : List (MapDiff ℤ)) (below : MapGone s t old new m diffs) (entries : List (ℤ × ℤ)) where
+  pub map_goes : CanWalk s old → map_bound (cap_at (sources_in s old)) m ≤ 65536 → entries ≡ entries_of (contents_at (sources_in s old) old.positions) m →
+      MapGoes entries diffs (entries_of (contents_at (sources_in t new) new.positions) m)
+  map_goes can few stood =
+      let ahead = never_back s t old new can below.gone below.walked.goes_on in
+      let held = held_before s t old new can below.gone in
+      let leads : MapLeads entries diffs (entries_of (contents_at (sources_in t new) new.positions) m) =
+      rw (stood, below.flow, ← held) (map_flow_leads (ways (sources_in t new) old.positions new.positions) ahead m) in
+      let caps = same_caps s t old new can below.gone in
+      let each = λ (leaf : ℕ). seen_map_short t below.gone.can.sound new.first (length new.positions) leaf (slice_index old.positions leaf) in
+      let short : MapGoesShort 65536 entries diffs =
+      rw (stood, below.flow, ← held) (map_flow_short (ways (sources_in t new) old.positions new.positions) ahead each 65536 m (rw caps few)) in
+      record { lawful = leads.lawful; few = short.before; short = short.stays; replay = leads.replay }
+
+  pub keys_go : ListMayGo s old (keys_by entries m) → MapGoes entries diffs (entries_of (contents_at (sources_in t new) new.positions) m)
+  keys_go may = map_goes may.can may.short may.stands
+
+  pub values_go : ListMayGo s old (values_by entries m) → MapGoes entries diffs (entries_of (contents_at (sources_in t new) new.positions) m)
+  values_go may = map_goes may.can may.short may.stands
+
+  -- what the map's list gives is what it gives on the way
+  pub of_map_flow : {U : Type 0} (gives : List (ℤ × ℤ) → MapDiff ℤ → List (VecDiff U)) → CanWalk s old → entries ≡ entries_of (contents_at (sources_in s old) old.positions) m →
+      of_map gives entries diffs ≡ of_map gives (entries_of (contents_at (sources_in t new) old.positions) m) (map_flow (ways (sources_in t new) old.positions new.positions) m)
+  of_map_flow gives can stood = rw (stood, below.flow, ← held_before s t old new can below.gone) refl
+
+  module _ (after : MapTree ℕ) (same : after ≡ m) (next : List (ℤ × ℤ)) (next_is : next ≡ map_replayed entries diffs) (given : List (VecDiff ℤ)) where
+    pub keys_gone : ListMayGo s old (keys_by entries m) → given ≡ of_map keys_gives entries diffs → ListGone s t old new (keys_by entries m) (keys_by next after) given
+    keys_gone may is = record {
+      gone = below.gone;
+      walked = below.walked;
+      flow = is ∙ of_map_flow keys_gives may.can may.stands;
+      stands = rw same (next_is ∙ (keys_go may).replay);
+      tree = rw same refl;
+    }
+
+    pub values_gone : ListMayGo s old (values_by entries m) → given ≡ of_map values_gives entries diffs → ListGone s t old new (values_by entries m) (values_by next after) given
+    values_gone may is = record {
+      gone = below.gone;
+      walked = below.walked;
+      flow = is ∙ of_map_flow values_gives may.can may.stands;
+      stands = rw same (next_is ∙ (values_go may).replay);
+      tree = rw same refl;
+    }
+
+-- the value at a key
+module _ (s t : PortState) (old new : Progress) (m : MapTree ℕ) (diffs : List (MapDiff ℤ)) (below : MapGone s t old new m diffs) (key : KeyView) (may : SignalMayGo s old (value_at_key key m)) where
+  abbrev entries_before : List (ℤ × ℤ)
+  entries_before = entries_of (contents_at (sources_in s old) old.positions) m
+
+  pub key_gone : (after : MapTree ℕ) → after ≡ m → (next : KeyView) (given_value : Option ℤ) → next.key ≡ key.key → next.default ≡ key.default →
+      ((entries : List (ℤ × ℤ)) → key.value ≡ value_at key.key entries → next.value ≡ value_at key.key (map_replayed entries diffs)) →
+      given_value ≡ given (key_shows key) (key_shows next) → SignalGone s t old new (value_at_key key m) (value_at_key next after) given_value
+  key_gone after same next given_value same_key same_default law is =
+      let goes = map_goes s t old new m diffs below entries_before may.can may.short refl in
+      let now : next.value ≡ value_at key.key (entries_of (contents_at (sources_in t new) new.positions) m) = law entries_before may.stands ∙ ap (value_at key.key) goes.replay in
+      record {
+        gone = below.gone;
+        walked = below.walked;
+        flow = is ∙ rw (may.stands, same_default, now, ← held_before s t old new may.can below.gone) refl;
+        stands = rw (same_key, same) now;
+        tree = rw (same_key, same_default, same) refl;
+      }
