@@ -5,9 +5,11 @@ use Rattle.sig_diff.specs.Sorting.{by_key, in_order}
 use Rattle.sig_diff.specs.declared.contents.Content.{Content}
 use Rattle.sig_expr.specs.Functions.{image}
 use Rattle.sig_expr.specs.Scratch.{list_of, lists_of, signals_of, value_of}
-use Rattle.sig_expr.specs.Trees.{SigTree, cell, mapped_signal, deduped, switched, length_of, total_of, VecTree, vector, mapped, filtered, filtered_by, mapped_by, sorted, picked, SigTrees, no_signals, more_signals, VecTrees, no_lists, more_lists, map_source, ViewTree, signal_view, vector_view, map_view}
+use Rattle.sig_expr.specs.Trees.{SigTree, cell, mapped_signal, deduped, switched, length_of, total_of, VecTree, vector, mapped, filtered, filtered_by, mapped_by, sorted, joined, flattened, picked, SigTrees, no_signals, more_signals, VecTrees, no_lists, more_lists, map_source, ViewTree, signal_view, vector_view, map_view}
 use Rattle.sig_expr.specs.declared.functions.Fun.{Fun}
 use Rattle.sig_expr.specs.declared.functions.Pred.{Pred}
+use Rattle.sig_flat.specs.Flattening.{Blocks}
+use Rattle.sig_flat.specs.Joining.{Halves}
 use Rattle.sig_ops.specs.Filters.{Filter}
 use Rattle.sig_sort.specs.Sorted.{SortedList}
 use Rattle.sig_view.specs.declared.nodes.ListNode.{ListNode, ListNode-F, fold-ListNode}
@@ -28,6 +30,8 @@ mutual
     ordered : SortedList Fun → ListOps → ListOps
     let_in : BySignals → ListOps → SignalsOps → ListOps
     raised : BySignals → ListOps → SignalsOps → ListOps
+    halves_of : Halves → ListOps → ListOps → ListOps
+    blocks_of : Blocks → ListOps → ListsOps → ListOps
     pick_of : Choice (List ℤ) → SignalOps → ListsOps → ListOps
 
   -- a signal's
@@ -63,6 +67,8 @@ list_step (ListNode-F.Filter filter of) = kept filter of.value
 list_step (ListNode-F.Sorted list of) = ordered list of.value
 list_step (ListNode-F.FilterBy by of bank) = let_in by of.value bank.value
 list_step (ListNode-F.MapBy by of bank) = raised by of.value bank.value
+list_step (ListNode-F.Concat halves left right) = halves_of halves left.value right.value
+list_step (ListNode-F.Flatten blocks of bank) = blocks_of blocks of.value bank.value
 list_step (ListNode-F.Pick choice of bank) = pick_of choice of.value bank.value
 
 abbrev pub signal_step : SignalNode-F ListsOps ListOps SignalsOps SignalOps → SignalOps
@@ -103,6 +109,8 @@ abbrev mutual
   list_tree (ordered list ops) = sorted list.mapper (list_tree ops)
   list_tree (let_in by ops bank) = filtered_by (list_tree ops) (signal_trees bank)
   list_tree (raised by ops bank) = mapped_by (list_tree ops) (signal_trees bank)
+  list_tree (halves_of halves left right) = joined (list_tree left) (list_tree right)
+  list_tree (blocks_of blocks ops bank) = flattened (list_tree ops) (list_trees bank)
   list_tree (pick_of choice ops bank) = picked (signal_tree ops) (list_trees bank)
 
   pub signal_tree : SignalOps → SigTree ℕ
@@ -134,6 +142,10 @@ abbrev mutual
       (by.items ≡ list_of s (list_tree ops)) × (by.signals ≡ signals_of s (signal_trees bank)) × ListStands s ops × SignalsStand s bank
   ListStands s (raised by ops bank) =
       (by.items ≡ list_of s (list_tree ops)) × (by.signals ≡ signals_of s (signal_trees bank)) × ListStands s ops × SignalsStand s bank
+  ListStands s (halves_of halves left right) =
+      (halves.left ≡ length (list_of s (list_tree left))) × (halves.right ≡ length (list_of s (list_tree right))) × ListStands s left × ListStands s right
+  ListStands s (blocks_of blocks ops bank) =
+      (blocks.outer ≡ list_of s (list_tree ops)) × (blocks.parts ≡ lists_of s (list_trees bank)) × ListStands s ops × ListsStand s bank
   ListStands s (pick_of choice ops bank) =
       (choice.chooser ≡ value_of s (signal_tree ops)) × (choice.parts ≡ lists_of s (list_trees bank)) × SignalStands s ops × ListsStand s bank
 
