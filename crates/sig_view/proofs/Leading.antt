@@ -16,7 +16,7 @@ use Rattle.sig_diff.specs.declared.map_differences.MapDiff.TheVariants as change
 use Rattle.sig_expr.specs.Functions.{image, passes}
 use Rattle.sig_expr.specs.Scratch.{entries_of, list_of, lists_of, signals_of, value_of}
 use Rattle.sig_expr.specs.Shows.{shows}
-use Rattle.sig_expr.specs.Trees.{MapTree, map_source, SigTree, cell, mapped_signal, deduped, switched, length_of, total_of, VecTree, vector, mapped, filtered, filtered_by, mapped_by, sorted, picked, SigTrees, no_signals, more_signals, VecTrees, no_lists, more_lists, ViewTree, signal_view, vector_view, map_view, entries_view, tagged_view}
+use Rattle.sig_expr.specs.Trees.{MapTree, map_source, SigTree, cell, mapped_signal, deduped, switched, length_of, total_of, VecTree, vector, mapped, filtered, filtered_by, mapped_by, sorted, joined, flattened, picked, SigTrees, no_signals, more_signals, VecTrees, no_lists, more_lists, ViewTree, signal_view, vector_view, map_view, entries_view, tagged_view}
 use Rattle.sig_expr.specs.declared.shown.Shown.{Shown}
 use Rattle.sig_expr.specs.declared.shown.Shown.TheVariants as shown
 use Rattle.sig_hist.proofs.Telling.{kind_state}
@@ -27,7 +27,9 @@ use Rattle.sig_hist.specs.declared.edits.Edit.{Edit}
 use Rattle.sig_hist.specs.declared.edits.Edit.TheVariants.{Put, Delete, Load, Wipe}
 use Rattle.sig_hist.specs.declared.edits.Entry.{Entry}
 use Rattle.sig_ops.specs.Signals.{given}
+use Rattle.sig_view.proofs.BlocksLead.{blocks_lead}
 use Rattle.sig_view.proofs.ByClass.{EachGoes, no_part, one_part, SignalsGo, filter_by_leads, map_by_leads, pick_leads, switch_leads}
+use Rattle.sig_view.proofs.HalvesLead.{halves_lead}
 use Rattle.sig_view.proofs.Turning.{Leads, behind_is, entering_leads, filter_keeps_up, map_leads, sorted_keeps_up, through_leads}
 use Rattle.sig_view.specs.Built.{AreListsBuilt, AreSignalsBuilt, IsBuilt, IsListBuilt, IsMapBuilt, IsSignalBuilt}
 use Rattle.sig_view.specs.Flow.{Way, before, flow, list_flow, list_flows, map_flow, new, old, passed, value_flow, value_flows}
@@ -155,6 +157,10 @@ module _ {L : Type 0} (way : L → Way) (ahead : (leaf : L) → (way leaf).from 
         filter_by_leads (list_of (old way) e) (list_flow way e) (list_of (new way) e) (signals_of (old way) bank) (value_flows way bank) (signals_of (new way) bank) (flow_leads e is.0) (signals_lead bank is.1)
     flow_leads (mapped_by e bank) is =
         map_by_leads (list_of (old way) e) (list_flow way e) (list_of (new way) e) (signals_of (old way) bank) (value_flows way bank) (signals_of (new way) bank) (flow_leads e is.0) (signals_lead bank is.1)
+    flow_leads (joined a b) is =
+        halves_lead (list_of (old way) a) (list_flow way a) (list_of (new way) a) (list_of (old way) b) (list_flow way b) (list_of (new way) b) (flow_leads a is.0) (flow_leads b is.1)
+    flow_leads (flattened e bank) is =
+        blocks_lead (list_of (old way) e) (list_flow way e) (list_of (new way) e) (flow_leads e is.0) (lists_of (old way) bank) (list_flows way bank) (lists_of (new way) bank) (lists_lead bank is.1)
     flow_leads (picked e bank) is =
         pick_leads (value_of (old way) e) (value_flow way e) (value_of (new way) e) (lists_of (old way) bank) (list_flows way bank) (lists_of (new way) bank) (signal_leads e is.0) (lists_lead bank is.1)
     flow_leads _ is = absurd is

@@ -1,5 +1,8 @@
 pub mod Turning
 pub mod ByClass
+pub mod GoingAlong
+pub mod HalvesLead
+pub mod BlocksLead
 pub mod Leading
 pub mod Staying
 pub mod Later
@@ -11,6 +14,9 @@ pub mod Parts
 pub mod ByBank
 pub mod ByChooser
 pub mod ListArms
+pub mod ByList
+pub mod ByHalves
+pub mod ByBlocks
 pub mod Results
 pub mod SignalArms
 pub mod SwitchSteps

@@ -223,6 +223,8 @@ module _ {L : Type 0} where
     list_built (sorted f e) first is = list_built e first is
     list_built (filtered_by e bank) first is = (list_built e first is.0, signals_built bank (first + length (vec_leaves e)) is.1)
     list_built (mapped_by e bank) first is = (list_built e first is.0, signals_built bank (first + length (vec_leaves e)) is.1)
+    list_built (joined a b) first is = (list_built a first is.0, list_built b (first + length (vec_leaves a)) is.1)
+    list_built (flattened e bank) first is = (list_built e first is.0, lists_built bank (first + length (vec_leaves e)) is.1)
     list_built (picked e bank) first is = (signal_built e first is.0, lists_built bank (first + length (sig_leaves e)) is.1)
     list_built _ first is = absurd is
 
