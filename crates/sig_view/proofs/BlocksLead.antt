@@ -160,6 +160,7 @@ module _ (op : Blocks) (diff : VecDiff ℤ) (diffs : List (VecDiff ℤ)) (may : 
       record { most = may.most; most_part = may.most_part; blocks = record { few = may.blocks.few; few_part = may.blocks.few_part; outer = later.within; parts = may.blocks.parts }; goes = later }
 
   pub outer_few_after : length (flattened (outer_next op diff)) ≤ 65536
+  unfolding outer_later
   outer_few_after = few_blocks may.most may.most_part (outer_next op diff) outer_later.blocks
 
 module _ (place : ℕ) (op : Blocks) (diff : VecDiff ℤ) (diffs : List (VecDiff ℤ)) (may : MayTakePart place op (diff ∷ diffs)) where
@@ -189,6 +190,7 @@ module _ (place : ℕ) (op : Blocks) (diff : VecDiff ℤ) (diffs : List (VecDiff
       }
 
   pub part_few_after : length (flattened (bank_next op place diff)) ≤ 65536
+  unfolding part_later
   part_few_after = few_blocks may.most may.most_part (bank_next op place diff) part_later.blocks
 
 -- after all of them the blocks are few again, and the lists behind that one are as they were
@@ -197,6 +199,7 @@ pub record PartTaken (most most_part place : ℕ) (op after : Blocks) : Type 0 w
   pub others : drop (suc place) after.parts ≡ drop (suc place) op.parts
 
 part_taken : (place : ℕ) (op : Blocks) (diffs : List (VecDiff ℤ)) (may : MayTakePart place op diffs) → PartTaken may.most may.most_part place op (after_part place op diffs)
+unfolding part_later
 part_taken place op [] may = record { blocks = may.blocks; others = refl }
 part_taken place op (diff ∷ diffs) may =
     let later = part_taken place (bank_next op place diff) diffs (part_later place op diff diffs may) in
@@ -217,6 +220,7 @@ module _ (place : ℕ) (op : Blocks) (diffs : List (VecDiff ℤ)) (lists : List 
   parts_part = record { most = may.most; most_part = may.most_part; blocks = may.blocks; within = here; goes = go.0 }
 
   pub parts_later : MayTakeParts (place + 1) (after_part place op diffs) lists
+  unfolding parts_part
   parts_later =
       let taken = part_taken place op diffs parts_part in
       record { most = may.most; most_part = may.most_part; blocks = taken.blocks; go = rw (add-one, taken.others) go.1 }
@@ -227,7 +231,7 @@ pub record TakingParts (op first : Blocks) (place : ℕ) (lists : List (List (Ve
   pub op_is : after_parts place op (drop place lists) ≡ after_parts 0 first lists
   pub may : MayTakeParts place op (drop place lists)
 
-module _ (op first : Blocks) (place : ℕ) (lists : List (List (VecDiff ℤ))) (given before : List (VecDiff ℤ)) (taking : TakingParts op first place lists given before)
+module _ {op first : Blocks} {place : ℕ} {lists : List (List (VecDiff ℤ))} {given before : List (VecDiff ℤ)} (taking : TakingParts op first place lists given before)
     (diffs : List (VecDiff ℤ)) (below : place < length lists) (is : diffs ≡ get_or lists place diffs) where
   split : drop place lists ≡ diffs ∷ drop (place + 1) lists
   split = drop-cons lists place diffs below ∙ rw (← is, add-one) refl

@@ -1,5 +1,5 @@
 -- What an operator with a state gives for differences of one list, where the state goes by that list.
-use Rattle.std.proofs.Common.{◌≡◌, ◌∙◌, ℕ, ◌+◌, ◌<◌, ◌≤◌, ℤ, List, [], ◌∷◌, ◌++◌, length, drop, get_or, sym, ap, add-one, append_assoc, le_trans}
+use Rattle.std.proofs.Common.{◌≡◌, ◌∙◌, ℕ, ◌+◌, ◌<◌, ◌≤◌, ℤ, List, [], ◌∷◌, ◌++◌, length, drop, get_or, refl, sym, ap, add-one, append_assoc, le_trans}
 use Rattle.std.proofs.Math.Seq.{drop-cons}
 use Rattle.std.specs.List.{fold}
 use Rattle.sig_diff.specs.Differences.{IsLawful, applied}
@@ -74,7 +74,7 @@ pub record Taking {O D U : Type 0} (gives : O → D → List U) (next : O → D 
   pub op_is : fold next op (drop index diffs) ≡ fold next first diffs
   pub may : May op (drop index diffs)
 
-module _ {O D U : Type 0} {gives : O → D → List U} {next : O → D → O} {May : O → List D → Type 0} (op first : O) (index : ℕ) (diffs : List D) (given before : List U) (taking : Taking gives next May op first index diffs given before)
+module _ {O D U : Type 0} {gives : O → D → List U} {next : O → D → O} {May : O → List D → Type 0} {op first : O} {index : ℕ} {diffs : List D} {given before : List U} (taking : Taking gives next May op first index diffs given before)
     (diff : D) (below : index < length diffs) (is : diff ≡ get_or diffs index diff) where
   split : drop index diffs ≡ diff ∷ drop (index + 1) diffs
   split = drop-cons diffs index diff below ∙ rw (← is, add-one) refl

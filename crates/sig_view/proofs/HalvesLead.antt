@@ -45,9 +45,9 @@ module _ (xs : List ℤ) (diffs : List (VecDiff ℤ)) (ys zs : List ℤ) (others
     halves_short = record {
       before = omega (arith, few, left_short.before, right_short.before, length-append xs zs);
       stays = stays_append most (xs ++ zs) (half_flow 0 (lengths xs zs) diffs) (half_flow 1 (lengths ys zs) others)
-          (along_stays (left_along zs) most_left most (λ (as : List ℤ) within. omega (arith, few, within, right_short.before, length-append as zs)) xs diffs (goes most_left left left_short))
+          (along_stays (left_along zs) most_left most (λ (ls : List ℤ) within. omega (arith, few, within, right_short.before, length-append ls zs)) xs diffs (goes most_left left left_short))
           (rw (along_leads (left_along zs) xs diffs ys left).replay
-          (along_stays (right_along ys) most_right most (λ (as : List ℤ) within. omega (arith, few, within, short_after most_left xs diffs ys left left_short, length-append ys as)) zs others (goes most_right right right_short)));
+          (along_stays (right_along ys) most_right most (λ (rs : List ℤ) within. omega (arith, few, within, short_after most_left xs diffs ys left left_short, length-append ys rs)) zs others (goes most_right right right_short)));
     }
 
 -- ---- the code
@@ -105,8 +105,8 @@ module _ (op : Halves) (lefts rights : List (VecDiff ℤ)) (may : MayJoin op lef
   pub may_take_right : MayTakeHalf 1 (fold (λ (op : Halves). joined_next op 0) op lefts) rights
   may_take_right =
       let leads : Leads may.left lefts (replayed may.left lefts) = record { lawful = may.left_goes.lawful; replay = refl } in
-      let same : op ≡ lengths may.left may.right = λ i. record { left = may.left_is (~ i); right = may.right_is (~ i) } in
-      rw (same, left_after may.left lefts (replayed may.left lefts) may.right rights (replayed may.right rights) leads (record { lawful = may.right_goes.lawful; replay = refl })) (record {
+      let same : lengths may.left may.right ≡ op = λ i. record { left = may.left_is i; right = may.right_is i } in
+      rw (← same, left_after may.left lefts (replayed may.left lefts) may.right rights (replayed may.right rights) leads (record { lawful = may.right_goes.lawful; replay = refl })) (record {
         items = may.right;
         items_are = refl;
         most = may.most_right;
