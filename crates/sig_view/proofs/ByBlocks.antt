@@ -4,11 +4,12 @@ use Rattle.std.proofs.lemmas.List.{append-nil}
 use Rattle.std.specs.List.{fold}
 use Rattle.sig_diff.specs.declared.contents.Content.{Content}
 use Rattle.sig_diff.specs.declared.differences.VecDiff.{VecDiff}
-use Rattle.sig_expr.proofs.Awaiting.{vecs_among}
+use Rattle.sig_expr.proofs.Awaiting.{IsAmong, vecs_among}
+use Rattle.sig_expr.specs.Awaited.{all_of, each_vec_awaits, vec_awaits}
 use Rattle.sig_expr.specs.Bounds.{greatest_bound, vec_bound}
 use Rattle.sig_expr.specs.Leaves.{vec_leaves, vecs_leaves}
 use Rattle.sig_expr.specs.Scratch.{list_of, lists_of}
-use Rattle.sig_expr.specs.Trees.{VecTree, VecTrees}
+use Rattle.sig_expr.specs.Trees.{VecTree, VecTrees, flattened}
 use Rattle.sig_flat.specs.Flattening.{Blocks, outer_gives, outer_next}
 use Rattle.sig_hist.specs.Ports.{PortState}
 use Rattle.sig_view.proofs.Along.{same_list_flows}
@@ -30,7 +31,7 @@ use Rattle.sig_view.specs.Joins.{MayFlatten}
 use Rattle.sig_view.specs.Nodes.{ListOps, ListsOps, blocks_of, list_tree, list_trees, no_list, one_list}
 use Rattle.sig_view.specs.SoundRows.{contents_at, ways}
 use Rattle.sig_view.specs.Steps.{ListGone, ListMayGo, ListsGone, ListsMayGo}
-use Rattle.sig_view.specs.Walking.{HasGone, Progress, cap_at, sources_in}
+use Rattle.sig_view.specs.Walking.{HasGone, HasWalked, Progress, cap_at, sources_in}
 
 -- ---- all lists of a bank
 
@@ -98,9 +99,16 @@ module _ (s t : PortState) (old mid : Progress) (op : Blocks) (of after : ListOp
     abbrev caps : ℕ → ℕ
     caps = cap_at (sources_in s old)
 
+    among : IsAmong (all_of (each_vec_awaits ends (list_trees bank))) more
     among = vecs_among ends (list_trees bank)
+
+    gone : HasGone s u old new
     gone = both_gone s t old mid may.can of after diffs first more may.has may.apart u new second.gone _ among second.walked
+
+    walked : HasWalked s u old new (vec_awaits ends (flattened (list_tree of) (list_trees bank)))
     walked = both_walked s t old mid may.can of after diffs first more may.has may.apart u new second.gone _ among second.walked
+
+    back : contents_at (sources_in u new) old.positions ≡ holds
     back = held s t old mid may.can of after diffs first more may.has may.apart u new second.gone _ among second.walked
 
     outer_leads : Leads (list_of holds (list_tree of)) diffs (list_of ends (list_tree of))

@@ -4,10 +4,11 @@ use Rattle.std.specs.List.{fold}
 use Rattle.sig_diff.specs.declared.contents.Content.{Content}
 use Rattle.sig_diff.specs.declared.differences.VecDiff.{VecDiff}
 use Rattle.sig_expr.proofs.Awaiting.{vec_among}
+use Rattle.sig_expr.specs.Awaited.{vec_awaits}
 use Rattle.sig_expr.specs.Bounds.{vec_bound}
 use Rattle.sig_expr.specs.Leaves.{vec_leaves}
 use Rattle.sig_expr.specs.Scratch.{list_of}
-use Rattle.sig_expr.specs.Trees.{VecTree}
+use Rattle.sig_expr.specs.Trees.{VecTree, joined}
 use Rattle.sig_flat.specs.Joining.{Halves, joined_next}
 use Rattle.sig_hist.specs.Ports.{PortState}
 use Rattle.sig_view.proofs.Along.{same_list_flow}
@@ -24,7 +25,7 @@ use Rattle.sig_view.specs.Joins.{MayJoin}
 use Rattle.sig_view.specs.Nodes.{ListOps, halves_of, list_tree}
 use Rattle.sig_view.specs.SoundRows.{contents_at, ways}
 use Rattle.sig_view.specs.Steps.{ListGone, ListMayGo}
-use Rattle.sig_view.specs.Walking.{Progress, cap_at, sources_in}
+use Rattle.sig_view.specs.Walking.{HasGone, HasWalked, Progress, cap_at, sources_in}
 
 pub each_less : (a b c most : ℕ) → max a (max b c) ≤ most → (a ≤ most) × (b ≤ most) × (c ≤ most)
 each_less a b c most few = (omega (arith, few), omega (arith, few), omega (arith, few))
@@ -61,7 +62,10 @@ module _ (s t : PortState) (old mid : Progress) (op : Halves) (of after other : 
     abbrev bound : VecTree ℕ → ℕ
     bound = vec_bound (cap_at (sources_in s old))
 
+    gone : HasGone s u old new
     gone = both_gone s t old mid may.can of after diffs first more may.has may.apart u new second.gone _ (vec_among ends (list_tree other)) second.walked
+
+    walked : HasWalked s u old new (vec_awaits ends (joined (list_tree of) (list_tree other)))
     walked = both_walked s t old mid may.can of after diffs first more may.has may.apart u new second.gone _ (vec_among ends (list_tree other)) second.walked
 
     left_leads : Leads (list_of holds (list_tree of)) diffs (list_of ends (list_tree of))

@@ -168,7 +168,7 @@ module _ {L : Type 0} (cap : L → ℕ) where
     bound_within (keys_in m) = omega arith
     bound_within (values_in m) = omega arith
 
-    greatest_within : (bank : VecTrees L) → greatest_bound cap bank ≤ vecs_longest cap bank
+    pub greatest_within : (bank : VecTrees L) → greatest_bound cap bank ≤ vecs_longest cap bank
     greatest_within no_lists = omega arith
     greatest_within (more_lists e bank) = omega (arith, bound_within e, greatest_within bank)
 
