@@ -37,3 +37,4 @@ pub mod AllTried
 pub mod FirstRows
 pub mod Beginning
 pub mod BankStarts
+pub mod StartsShort
