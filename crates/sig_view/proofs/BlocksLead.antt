@@ -73,9 +73,10 @@ module _ (outer : List ℤ) where
   behind_one : (front : List (List ℤ)) (x : List ℤ) (olds : List (List ℤ)) (flows : List (List (VecDiff ℤ))) (news : List (List ℤ)) → RestLeads (front ++ x ∷ []) olds flows news → let place : ℕ = length front + 1 in
       Leads (flattened (with (front ++ x ∷ olds))) (parts_flow place (with (front ++ x ∷ olds)) flows) (flattened (with (front ++ x ∷ news)))
       × (after_parts place (with (front ++ x ∷ olds)) flows ≡ with (front ++ x ∷ news))
-  behind_one front x olds flows news rest =
-      (rw (append_assoc front (x ∷ []) olds, append_assoc front (x ∷ []) news, length-append front (x ∷ [])) at rest.leads,
-      rw (append_assoc front (x ∷ []) olds, append_assoc front (x ∷ []) news, length-append front (x ∷ [])) at rest.after)
+  behind_one front x olds flows news rest = (
+    rw (append_assoc front (x ∷ []) olds, append_assoc front (x ∷ []) news, length-append front (x ∷ [])) at rest.leads,
+    rw (append_assoc front (x ∷ []) olds, append_assoc front (x ∷ []) news, length-append front (x ∷ [])) at rest.after,
+  )
 
   rest_lead : {olds news : List (List ℤ)} {flows : List (List (VecDiff ℤ))} (front : List (List ℤ)) → EachGoes (Leads {T = ℤ}) olds flows news → RestLeads front olds flows news
   rest_lead front no_part = record { leads = record { lawful = tt; replay = refl }; after = refl }
@@ -148,9 +149,6 @@ pub few_blocks : (most most_part : ℕ) (op : Blocks) → AreFewBlocks most most
 few_blocks most most_part op blocks = le_trans (few_joined most most_part op blocks.outer blocks.parts) blocks.few
 
 module _ (op : Blocks) (diff : VecDiff ℤ) (diffs : List (VecDiff ℤ)) (may : MayTakeOuter op (diff ∷ diffs)) where
-  pub outer_lawful : IsLawful diff (length op.outer)
-  outer_lawful = may.goes.lawful.0
-
   pub outer_few : length (flattened op) ≤ 65536
   outer_few = few_blocks may.most may.most_part op may.blocks
 
@@ -164,14 +162,8 @@ module _ (op : Blocks) (diff : VecDiff ℤ) (diffs : List (VecDiff ℤ)) (may : 
   outer_few_after = few_blocks may.most may.most_part (outer_next op diff) outer_later.blocks
 
 module _ (place : ℕ) (op : Blocks) (diff : VecDiff ℤ) (diffs : List (VecDiff ℤ)) (may : MayTakePart place op (diff ∷ diffs)) where
-  pub part_lawful : IsLawful diff (length (part_at op place))
-  part_lawful = may.goes.lawful.0
-
   pub part_few : length (flattened op) ≤ 65536
   part_few = few_blocks may.most may.most_part op may.blocks
-
-  pub part_short : length (part_at op place) ≤ 65536
-  part_short = le_trans may.goes.within may.blocks.few_part
 
   pub part_later : MayTakePart place (bank_next op place diff) diffs
   part_later =

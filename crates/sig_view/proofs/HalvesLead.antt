@@ -52,10 +52,6 @@ module _ (xs : List ℤ) (diffs : List (VecDiff ℤ)) (ys zs : List ℤ) (others
 
 -- ---- the code
 
-long_half : (first : Bool) (left right : ℕ) → (if first then left else right) ≤ left + right
-long_half true left right = omega arith
-long_half false left right = omega arith
-
 half_next : (first : Bool) (op : Halves) (diff : VecDiff ℤ) → let next : Halves = if first then record op { left = resized op.left diff } else record op { right = resized op.right diff } in
     (if first then next.left else next.right) ≡ resized (if first then op.left else op.right) diff
 half_next true op diff = refl
@@ -68,20 +64,8 @@ still_few true op diff most few = omega (arith, few)
 still_few false op diff most few = omega (arith, few)
 
 module _ (child : ℕ) (op : Halves) (diff : VecDiff ℤ) (diffs : List (VecDiff ℤ)) (may : MayTakeHalf child op (diff ∷ diffs)) where
-  pub half_lawful : IsLawful diff (half op child)
-  half_lawful = rw may.items_are at may.goes.lawful.0
-
-  within : half op child ≤ may.most
-  within = rw may.items_are at may.goes.within
-
-  pub half_few : op.left + op.right ≤ 65536
-  half_few = omega (arith, may.few, within)
-
   resized_is : length (applied may.items diff) ≡ resized (half op child) diff
   resized_is = length_applied may.items diff may.goes.lawful.0 ∙ ap (λ (long : ℕ). resized long diff) may.items_are
-
-  pub half_few_after : resized (half op child) diff ≤ 65536
-  half_few_after = omega (arith, resized_is, (goes_later may.most may.items diff diffs may.goes).within, may.few, long_half (child == 0) op.left op.right)
 
   pub half_later : MayTakeHalf child (joined_next op child diff) diffs
   half_later = record {

@@ -62,11 +62,7 @@ pub fn flattened(
 }
 
 /// Adds what blocks give for differences of the outer list.
-fn give_outer(
-    op: &mut Flatten,
-    diffs: &Diffs<i64>,
-    given: &mut Diffs<i64>,
-) -> Result<(), NoMemory>
+fn give_outer(op: &mut Flatten, diffs: &Diffs<i64>, given: &mut Diffs<i64>) -> Result<(), NoMemory>
     requires may_take { MayTakeOuter op.old diffs.now }
     ensures given { OnOk result (given.new ≡ given.old ++ given_along outer_gives outer_next op.old diffs.now) }
     ensures state { OnOk result (op.new ≡ fold outer_next op.old diffs.now) }

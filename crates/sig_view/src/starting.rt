@@ -110,8 +110,8 @@ fn list_node(
         VecExpr::Flatten(of, bank) => {
             let behind = leaf + list_leaves(of.get());
             let (of, items) = list_node(alloc, of.get(), contents, leaf)?;
-            let (bank, lists) = list_bank_nodes(alloc, bank.as_slice(), contents, behind)?;
-            list_flattened(alloc, of, items, bank, lists)
+            let (bank, parts) = list_bank_nodes(alloc, bank.as_slice(), contents, behind)?;
+            list_flattened(alloc, of, items, bank, parts)
         }
         VecExpr::Pick(of, bank) => {
             let behind = leaf + signal_leaves(of.get());

@@ -1,5 +1,5 @@
 use Rattle.sig_view.proofs.GoingAlong.{may_take, one_taken}
-use Rattle.sig_view.proofs.HalvesLead.{half_few, half_few_after, half_later, half_lawful}
+use Rattle.sig_view.proofs.HalvesLead.{half_later}
 use Rattle.sig_view.proofs.joining.give_half.Goals as goal
 
 pub diffs-preserved : goal.diffs-preserved

@@ -1,4 +1,4 @@
-use Rattle.sig_view.proofs.BlocksLead.{part_few, part_few_after, part_later, part_short}
+use Rattle.sig_view.proofs.BlocksLead.{part_few, part_few_after, part_later}
 use Rattle.sig_view.proofs.GoingAlong.{may_take, one_taken}
 use Rattle.sig_view.proofs.joining.give_part.Goals as goal
 
