@@ -1,13 +1,12 @@
 -- What a flattened list gives as its outer list goes on, and then the lists of its bank, leads from the joined blocks to those after that.
 use Rattle.std.proofs.Common.{◌≡◌, ◌∙◌, ℕ, suc, ◌+◌, ◌*◌, ◌<◌, ◌≤◌, ℤ, List, [], ◌∷◌, ◌++◌, length, drop, get_or, slice_set, nat_lt, Bool, true, false, All, refl, sym, ap, add-one, append_assoc, arith, le_trans, get_or-set_same}
-use Rattle.std.proofs.Math.Nat.{mul-le-mul_right}
 use Rattle.std.proofs.Math.Seq.{drop-cons, get_or-append_seam, set-append_seam}
 use Rattle.std.proofs.lemmas.Bool.{ltb-true, ltb-false}
 use Rattle.std.proofs.lemmas.List.{drop-set-lt, drop_all, get_or_past, length-append, length-set}
 use Rattle.std.proofs.lemmas.List.Elements.{All-append, All-cons, All-get_or, All-nil, All-set}
 use Rattle.std.specs.List.{fold}
 use Rattle.sig_diff.specs.Choosing.{list_for}
-use Rattle.sig_diff.specs.Differences.{IsLawful, applied}
+use Rattle.sig_diff.specs.Differences.{applied}
 use Rattle.sig_diff.specs.Replaying.{StaysShort, replayed}
 use Rattle.sig_diff.specs.declared.differences.VecDiff.{VecDiff}
 use Rattle.sig_expr.proofs.Bounded.{length_flat_map_within}
@@ -18,7 +17,7 @@ use Rattle.sig_view.proofs.ByClass.{EachGoes, no_part, one_part}
 use Rattle.sig_view.proofs.GoingAlong.{GoesAlong, GoesShort, along_after, along_leads, along_stays, goes, goes_later, short_after}
 use Rattle.sig_view.proofs.Turning.{Leads, leads_append}
 use Rattle.sig_view.specs.Flow.{after_part, after_parts, given_along, part_flow, parts_flow}
-use Rattle.sig_view.specs.Joins.{AllGo, AreFewBlocks, Goes, MayFlatten, MayTakeOuter, MayTakePart, MayTakeParts}
+use Rattle.sig_view.specs.Joins.{AllGo, AreFewBlocks, MayFlatten, MayTakeOuter, MayTakePart, MayTakeParts}
 
 -- ---- how long the joined blocks are
 

@@ -1,5 +1,5 @@
 -- A flattened list: the outer list has gone on, and then the lists of the bank.
-use Rattle.std.proofs.Common.{◌≡◌, ◌∙◌, ℕ, ◌≤◌, ℤ, List, [], ◌∷◌, ◌++◌, length, refl, sym, ap, append_assoc, arith, le_trans}
+use Rattle.std.proofs.Common.{◌≡◌, ◌∙◌, ℕ, ℤ, List, [], ◌∷◌, ◌++◌, length, refl, sym, ap, append_assoc, arith, le_trans}
 use Rattle.std.proofs.lemmas.List.{append-nil}
 use Rattle.std.specs.List.{fold}
 use Rattle.sig_diff.specs.declared.contents.Content.{Content}

@@ -1,9 +1,9 @@
 -- What two lists, one behind the other, give as they go on leads from the two to the two after that.
-use Rattle.std.proofs.Common.{◌≡◌, ◌∙◌, ℕ, ◌+◌, ◌≤◌, ◌==◌, ℤ, List, [], ◌∷◌, ◌++◌, length, if◌then◌else◌, Bool, true, false, refl, sym, ap, arith}
+use Rattle.std.proofs.Common.{◌≡◌, ◌∙◌, ℕ, ◌+◌, ◌≤◌, ◌==◌, ℤ, List, ◌∷◌, ◌++◌, length, if◌then◌else◌, Bool, true, false, refl, sym, ap, arith}
 use Rattle.std.proofs.lemmas.List.{length-append}
 use Rattle.std.specs.List.{fold}
-use Rattle.sig_diff.specs.Differences.{IsLawful, applied}
-use Rattle.sig_diff.specs.Replaying.{StaysShort, replayed}
+use Rattle.sig_diff.specs.Differences.{applied}
+use Rattle.sig_diff.specs.Replaying.{replayed}
 use Rattle.sig_diff.specs.declared.differences.VecDiff.{VecDiff}
 use Rattle.sig_flat.specs.Joining.{Halves, half, joined_gives, joined_next}
 use Rattle.sig_flat.specs.Turning.{left_turns, right_turns}
@@ -13,7 +13,7 @@ use Rattle.sig_ops.specs.TurnSteps.{stays_append}
 use Rattle.sig_view.proofs.GoingAlong.{GoesAlong, GoesShort, along_after, along_leads, along_stays, goes, goes_later, short_after}
 use Rattle.sig_view.proofs.Turning.{Leads, leads_append}
 use Rattle.sig_view.specs.Flow.{half_flow}
-use Rattle.sig_view.specs.Joins.{Goes, MayJoin, MayTakeHalf}
+use Rattle.sig_view.specs.Joins.{MayJoin, MayTakeHalf}
 
 abbrev pub lengths : List ℤ → List ℤ → Halves
 lengths left right = record { left = length left; right = length right }
