@@ -110,12 +110,18 @@ module _ {L : Type 0} (way other : L → Way) where
         let one = alike_front (vec_leaves e) (sigs_leaves bank) alike in
         let others = alike_back (vec_leaves e) (sigs_leaves bank) alike in
         rw (new_list e one, old_signals bank others, same_list_flow e one, same_value_flows bank others) refl
+    same_list_flow (joined a b) alike =
+        let one = alike_front (vec_leaves a) (vec_leaves b) alike in
+        let other = alike_back (vec_leaves a) (vec_leaves b) alike in
+        rw (old_list a one, new_list a one, old_list b other, same_list_flow a one, same_list_flow b other) refl
+    same_list_flow (flattened e bank) alike =
+        let one = alike_front (vec_leaves e) (vecs_leaves bank) alike in
+        let others = alike_back (vec_leaves e) (vecs_leaves bank) alike in
+        rw (old_list e one, new_list e one, old_lists bank others, same_list_flow e one, same_list_flows bank others) refl
     same_list_flow (picked e bank) alike =
         let one = alike_front (sig_leaves e) (vecs_leaves bank) alike in
         let others = alike_back (sig_leaves e) (vecs_leaves bank) alike in
         rw (old_value e one, new_value e one, old_lists bank others, same_value_flow e one, same_list_flows bank others) refl
-    same_list_flow (joined a b) alike = refl
-    same_list_flow (flattened e bank) alike = refl
     same_list_flow (keys_in m) alike = ap₂ (of_map keys_gives) (old_map m alike) (same_map_flow m alike)
     same_list_flow (values_in m) alike = ap₂ (of_map values_gives) (old_map m alike) (same_map_flow m alike)
 

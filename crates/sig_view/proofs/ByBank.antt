@@ -22,9 +22,10 @@ use Rattle.sig_view.proofs.Along.{same_awaited_list, same_list_flow, same_value_
 use Rattle.sig_view.proofs.ByClass.{SignalsGo, no_part, one_part}
 use Rattle.sig_view.proofs.Carrying.{held_before, list_is_built, never_back, signals_are_built}
 use Rattle.sig_view.proofs.Composing.{gone_again, walked_on}
+use Rattle.sig_view.proofs.GoingAlong.{short_after}
 use Rattle.sig_view.proofs.Leading.{flow_leads, signals_lead}
 use Rattle.sig_view.proofs.Parts.{distinct_back, first_holds, first_way, second_has, second_holds, second_way}
-use Rattle.sig_view.proofs.Shortening.{goes_short, same_caps, short_after}
+use Rattle.sig_view.proofs.Shortening.{goes_short, same_caps}
 use Rattle.sig_view.proofs.Standing.{list_stands, signals_stand}
 use Rattle.sig_view.proofs.Turning.{Leads}
 use Rattle.sig_view.specs.Choices.{with_items}

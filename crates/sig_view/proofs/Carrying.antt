@@ -15,7 +15,7 @@ use Rattle.sig_view.proofs.Staying.{same_contents}
 use Rattle.sig_view.proofs.Turning.{Leads}
 use Rattle.sig_view.specs.Built.{AreListsBuilt, AreSignalsBuilt, IsListBuilt, IsSignalBuilt}
 use Rattle.sig_view.specs.Flow.{GoesAhead, list_flow, through}
-use Rattle.sig_view.specs.Nodes.{ListOps, source, images, kept, ordered, let_in, raised, pick_of, keys_by, values_by, SignalOps, number, image_of, without_repeats, switch_of, count_of, sum_of, value_at_key, SignalsOps, no_signal, one_signal, ListsOps, no_list, one_list, ListStands, list_tree, list_trees, signal_tree, signal_trees}
+use Rattle.sig_view.specs.Nodes.{ListOps, source, images, kept, ordered, let_in, raised, pick_of, keys_by, values_by, SignalOps, number, image_of, without_repeats, switch_of, count_of, sum_of, value_at_key, SignalsOps, no_signal, one_signal, ListsOps, no_list, one_list, ListStands, list_tree, list_trees, signal_tree, signal_trees, halves_of, blocks_of}
 use Rattle.sig_view.specs.SoundRows.{GoOn, contents_at, ways}
 use Rattle.sig_view.specs.Walking.{CanWalk, HasGone, Progress, seen_sources, sources_in}
 
@@ -27,6 +27,8 @@ mutual
   list_is_built (ordered list ops) = list_is_built ops
   list_is_built (let_in by ops bank) = (list_is_built ops, signals_are_built bank)
   list_is_built (raised by ops bank) = (list_is_built ops, signals_are_built bank)
+  list_is_built (halves_of halves left right) = (list_is_built left, list_is_built right)
+  list_is_built (blocks_of blocks ops bank) = (list_is_built ops, lists_are_built bank)
   list_is_built (pick_of choice ops bank) = (signal_is_built ops, lists_are_built bank)
   list_is_built (keys_by entries m) = tt
   list_is_built (values_by entries m) = tt

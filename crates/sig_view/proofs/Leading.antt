@@ -19,7 +19,7 @@ use Rattle.sig_diff.specs.declared.map_differences.MapDiff.TheVariants as change
 use Rattle.sig_expr.specs.Functions.{image, passes}
 use Rattle.sig_expr.specs.Scratch.{entries_of, list_of, lists_of, signals_of, value_of}
 use Rattle.sig_expr.specs.Shows.{shows}
-use Rattle.sig_expr.specs.Trees.{MapTree, map_source, mapped_values, SigTree, cell, mapped_signal, deduped, switched, length_of, total_of, at_key, VecTree, vector, mapped, filtered, filtered_by, mapped_by, sorted, picked, keys_in, values_in, SigTrees, no_signals, more_signals, VecTrees, no_lists, more_lists, ViewTree, signal_view, vector_view, map_view, entries_view, tagged_view}
+use Rattle.sig_expr.specs.Trees.{MapTree, map_source, mapped_values, SigTree, cell, mapped_signal, deduped, switched, length_of, total_of, at_key, VecTree, vector, mapped, filtered, filtered_by, mapped_by, sorted, picked, keys_in, values_in, SigTrees, no_signals, more_signals, VecTrees, no_lists, more_lists, ViewTree, signal_view, vector_view, map_view, entries_view, tagged_view, joined, flattened}
 use Rattle.sig_expr.specs.declared.shown.Shown.{Shown}
 use Rattle.sig_expr.specs.declared.shown.Shown.TheVariants as shown
 use Rattle.sig_hist.proofs.InOrder.{state_in_order}
@@ -32,9 +32,11 @@ use Rattle.sig_hist.specs.declared.edits.Edit.TheVariants.{Put, Delete, Load, Wi
 use Rattle.sig_hist.specs.declared.edits.Entry.{Entry}
 use Rattle.sig_ops.specs.Enumerating.{Enumeration, IsEnumeration, values_of}
 use Rattle.sig_ops.specs.Signals.{given}
+use Rattle.sig_view.proofs.BlocksLead.{blocks_lead}
 use Rattle.sig_view.proofs.ByClass.{EachGoes, no_part, one_part, SignalsGo, filter_by_leads, map_by_leads, pick_leads, switch_leads}
 use Rattle.sig_view.proofs.ByMap.{FollowsMap, IsOrderly, MapLeads, entries_follow, keys_follow, of_map_leads, values_follow, values_lead}
 use Rattle.sig_view.proofs.Tags.{tags_differ, tags_follow, tags_lawful, tags_replay}
+use Rattle.sig_view.proofs.HalvesLead.{halves_lead}
 use Rattle.sig_view.proofs.Turning.{Leads, behind_is, entering_leads, filter_keeps_up, map_leads, sorted_keeps_up, through_leads}
 use Rattle.sig_view.specs.Built.{AreListsBuilt, AreSignalsBuilt, IsBuilt, IsListBuilt, IsSignalBuilt}
 use Rattle.sig_view.specs.Flow.{GoesAhead, Way, before, flow, list_flow, list_flows, map_flow, new, of_map, old, passed, tags_after, value_flow, value_flows, with_tags}
@@ -177,6 +179,10 @@ module _ {L : Type 0} (way : L → Way) (goes : (leaf : L) → GoesAhead (way le
         filter_by_leads (list_of (old way) e) (list_flow way e) (list_of (new way) e) (signals_of (old way) bank) (value_flows way bank) (signals_of (new way) bank) (flow_leads e is.0) (signals_lead bank is.1)
     flow_leads (mapped_by e bank) is =
         map_by_leads (list_of (old way) e) (list_flow way e) (list_of (new way) e) (signals_of (old way) bank) (value_flows way bank) (signals_of (new way) bank) (flow_leads e is.0) (signals_lead bank is.1)
+    flow_leads (joined a b) is =
+        halves_lead (list_of (old way) a) (list_flow way a) (list_of (new way) a) (list_of (old way) b) (list_flow way b) (list_of (new way) b) (flow_leads a is.0) (flow_leads b is.1)
+    flow_leads (flattened e bank) is =
+        blocks_lead (list_of (old way) e) (list_flow way e) (list_of (new way) e) (flow_leads e is.0) (lists_of (old way) bank) (list_flows way bank) (lists_of (new way) bank) (lists_lead bank is.1)
     flow_leads (picked e bank) is =
         pick_leads (value_of (old way) e) (value_flow way e) (value_of (new way) e) (lists_of (old way) bank) (list_flows way bank) (lists_of (new way) bank) (signal_leads e is.0) (lists_lead bank is.1)
     flow_leads (keys_in m) is = of_map_flow_leads keys_follow m

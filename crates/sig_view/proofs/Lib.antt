@@ -1,7 +1,10 @@
 pub mod Turning
 pub mod ByClass
-pub mod Tags
 pub mod ByMap
+pub mod GoingAlong
+pub mod HalvesLead
+pub mod BlocksLead
+pub mod Tags
 pub mod Leading
 pub mod Still
 pub mod Staying
@@ -14,6 +17,9 @@ pub mod Parts
 pub mod ByBank
 pub mod ByChooser
 pub mod ListArms
+pub mod ByList
+pub mod ByHalves
+pub mod ByBlocks
 pub mod Results
 pub mod SignalArms
 pub mod MapArms
@@ -39,3 +45,4 @@ pub mod FirstRows
 pub mod Beginning
 pub mod BankStarts
 pub mod MapStarts
+pub mod StartsShort

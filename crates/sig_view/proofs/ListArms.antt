@@ -36,7 +36,7 @@ use Rattle.sig_view.specs.SoundRows.{contents_at, ways}
 use Rattle.sig_view.specs.Steps.{ListAtGone, ListGone, ListMayGo, ListsMayGo, SignalGone, SignalMayGo, SignalsGone, SignalsMayGo}
 use Rattle.sig_view.specs.Walking.{HasGone, HasWalked, IsEntering, Progress, list_entered, sources_in}
 
-less : (a b most : ℕ) → max a b ≤ most → (a ≤ most) × (b ≤ most)
+pub less : (a b most : ℕ) → max a b ≤ most → (a ≤ most) × (b ≤ most)
 less a b most few = (omega (arith, few), omega (arith, few))
 
 -- ---- one list below

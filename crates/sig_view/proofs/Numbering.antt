@@ -216,13 +216,15 @@ within_caps cap other first (l ∷ labels) each = (
 
 module _ {L : Type 0} where
   mutual
-    list_built : (e : VecTree L) (first : ℕ) → IsListBuilt e → IsListBuilt (number_vec e first)
+    pub list_built : (e : VecTree L) (first : ℕ) → IsListBuilt e → IsListBuilt (number_vec e first)
     list_built (vector leaf) first is = tt
     list_built (mapped f e) first is = list_built e first is
     list_built (filtered p e) first is = list_built e first is
     list_built (sorted f e) first is = list_built e first is
     list_built (filtered_by e bank) first is = (list_built e first is.0, signals_built bank (first + length (vec_leaves e)) is.1)
     list_built (mapped_by e bank) first is = (list_built e first is.0, signals_built bank (first + length (vec_leaves e)) is.1)
+    list_built (joined a b) first is = (list_built a first is.0, list_built b (first + length (vec_leaves a)) is.1)
+    list_built (flattened e bank) first is = (list_built e first is.0, lists_built bank (first + length (vec_leaves e)) is.1)
     list_built (picked e bank) first is = (signal_built e first is.0, lists_built bank (first + length (sig_leaves e)) is.1)
     list_built (keys_in m) first is = tt
     list_built (values_in m) first is = tt
@@ -241,7 +243,7 @@ module _ {L : Type 0} where
     signals_built no_signals first is = tt
     signals_built (more_signals e bank) first is = (signal_built e first is.0, signals_built bank (first + length (sig_leaves e)) is.1)
 
-    lists_built : (bank : VecTrees L) (first : ℕ) → AreListsBuilt bank → AreListsBuilt (number_vecs bank first)
+    pub lists_built : (bank : VecTrees L) (first : ℕ) → AreListsBuilt bank → AreListsBuilt (number_vecs bank first)
     lists_built no_lists first is = tt
     lists_built (more_lists e bank) first is = (list_built e first is.0, lists_built bank (first + length (vec_leaves e)) is.1)
 

@@ -1,5 +1,6 @@
 -- No list on the way of a view is longer than the caps of its sources allow.
-use Rattle.std.proofs.Common.{◌≡◌, ℕ, zero, suc, ◌+◌, ◌≤◌, ℤ, List, [], ◌∷◌, ◌++◌, length, take, map, filter_map, get_or, slice_index, pos, cond, Bool, true, false, ◌&&◌, not, Option, None, Some, refl, arith, le_trans}
+use Rattle.std.proofs.Common.{◌≡◌, ℕ, zero, suc, ◌+◌, ◌*◌, ◌≤◌, ℤ, List, [], ◌∷◌, ◌++◌, length, take, map, filter_map, get_or, slice_index, pos, cond, Bool, true, false, ◌&&◌, not, Option, None, Some, refl, arith, le_trans}
+use Rattle.std.proofs.Math.Nat.{le-max_left}
 use Rattle.std.specs.List.{flat_map}
 use Rattle.std.specs.Option.{option_map_or, option_to_list}
 use Rattle.sig_bank.specs.Banks.{BySignals}
@@ -13,10 +14,10 @@ use Rattle.sig_diff.specs.declared.contents.Content.TheVariants.{Cell, Vector, M
 use Rattle.sig_diff.specs.declared.differences.VecDiff.{VecDiff}
 use Rattle.sig_diff.specs.declared.differences.VecDiff.TheVariants.{Replace}
 use Rattle.sig_diff.specs.declared.map_differences.MapDiff.{MapDiff}
-use Rattle.sig_expr.specs.Bounds.{map_bound}
+use Rattle.sig_expr.specs.Bounds.{map_bound, greatest_bound, vec_bound}
 use Rattle.sig_expr.specs.Functions.{image, passes}
 use Rattle.sig_expr.specs.Scratch.{entries_of, list_of, lists_of, signals_of, value_of}
-use Rattle.sig_expr.specs.Trees.{MapTree, VecTree, vector, mapped, filtered, filtered_by, mapped_by, sorted, picked, keys_in, values_in, VecTrees, no_lists, more_lists}
+use Rattle.sig_expr.specs.Trees.{MapTree, VecTree, vector, mapped, filtered, filtered_by, mapped_by, sorted, picked, keys_in, values_in, VecTrees, no_lists, more_lists, joined, flattened}
 use Rattle.sig_hist.proofs.Entries.{within_cap}
 use Rattle.sig_hist.specs.Changes.{Change, after, change_of, edited, is_long, size_of}
 use Rattle.sig_hist.specs.Entering.{as_list, is_far, list_entering}
@@ -28,17 +29,20 @@ use Rattle.sig_hist.specs.declared.edits.Edit.{Edit}
 use Rattle.sig_hist.specs.declared.edits.Entry.{Entry}
 use Rattle.sig_ops.specs.Tables.{map_gives}
 use Rattle.sig_ops.specs.TurnSteps.{stays_append}
-use Rattle.sig_view.proofs.Carrying.{held_before, list_is_built, never_back, same_sources}
+use Rattle.sig_view.proofs.BlocksLead.{PartShort, blocks_short}
+use Rattle.sig_view.proofs.Carrying.{held_before, list_is_built, lists_are_built, never_back, same_sources}
 use Rattle.sig_view.proofs.ByClass.{EachGoes, no_part, one_part, GoesBySignals, IsGivenOrKept, SignalsGo, by_signals_lead, chosen_goes, filter_goes_by_signals, map_goes_by_signals, pick_turns}
 use Rattle.sig_view.proofs.ByMap.{FollowsMap, keys_follow, of_map_stays, values_follow}
 use Rattle.sig_view.proofs.MapShortening.{map_flow_short, seen_map_short}
 use Rattle.sig_view.proofs.Leading.{flow_leads, map_flow_leads, map_rises, signal_leads, signals_lead}
+use Rattle.sig_view.proofs.GoingAlong.{GoesShort, short_after, short_for_more, stays_for_more}
+use Rattle.sig_view.proofs.HalvesLead.{halves_short}
 use Rattle.sig_view.proofs.Staying.{same_plan}
 use Rattle.sig_view.proofs.Turning.{KeepsUp, Leads, filter_keeps_up, map_keeps_up, map_leads, map_through, sorted_keeps_up, through_follows, through_leads}
 use Rattle.sig_view.specs.Built.{AreListsBuilt, IsListBuilt}
 use Rattle.sig_view.specs.Flow.{GoesAhead, Way, before, by_signals, given_list, list_flow, list_flows, map_flow, new, of_map, old, passed, state_at, through, value_flow}
 use Rattle.sig_view.specs.Longest.{vec_longest, vecs_longest}
-use Rattle.sig_view.specs.Nodes.{ListOps, list_tree}
+use Rattle.sig_view.specs.Nodes.{ListOps, ListsOps, list_tree, list_trees}
 use Rattle.sig_view.specs.SoundRows.{GoOn, contents_at, leaf_source, ways}
 use Rattle.sig_view.specs.Walking.{CanWalk, HasGone, HasLooked, Progress, cap_at, seen_source, seen_sources, sources_in}
 
@@ -117,22 +121,7 @@ entering_short (Map pairs) cap entries within = tt
 
 -- ---- operators
 
--- a list is short, and stays so with each of its differences
-pub record GoesShort {T : Type 0} (most : ℕ) (xs : List T) (diffs : List (VecDiff T)) : Type 0 where
-  pub before : length xs ≤ most
-  pub stays : StaysShort most xs diffs
-
 module _ {T : Type 0} (most : ℕ) where
-  stays_for_more : (more : ℕ) → most ≤ more → (xs : List T) (diffs : List (VecDiff T)) → StaysShort most xs diffs → StaysShort more xs diffs
-  stays_for_more more larger xs [] short = tt
-  stays_for_more more larger xs (diff ∷ diffs) short = λ taken. (le_trans (short taken).0 larger, stays_for_more more larger (applied xs diff) diffs (short taken).1)
-
-  pub short_after : (xs : List T) (diffs : List (VecDiff T)) (ys : List T) → Leads xs diffs ys → GoesShort most xs diffs → length ys ≤ most
-  short_after xs [] ys leads short = rw (← leads.replay) short.before
-  short_after xs (diff ∷ diffs) ys leads short =
-      let kept = short.stays leads.lawful.0 in
-      short_after (applied xs diff) diffs ys (record { lawful = leads.lawful.1; replay = leads.replay }) (record { before = kept.0; stays = kept.1 })
-
   -- an operator's view, too
   through_short : {U : Type 0} {gives : List T → VecDiff T → List (VecDiff U)} {view : List T → List U} → KeepsUp gives view → (xs : List T) (diffs : List (VecDiff T)) → AreLawful xs diffs →
       GoesShort most xs diffs → GoesShort most (view xs) (through gives xs diffs)
@@ -154,14 +143,10 @@ module _ (most : ℕ) where
     stays = stays_append most xs diffs _ below.stays (rw leads.replay (stays_for_more (length ys) most few _ _ (by_signals_lead goes ys signals_go).stays));
   }
 
-  -- a part of a bank; what it becomes doesn't matter
-  abbrev PartShort : List ℤ → List (VecDiff ℤ) → List ℤ → Type 0
-  PartShort xs diffs ys = GoesShort most xs diffs
-
-  pick_short : (was : ℤ) (given : Option ℤ) (is : ℤ) (olds : List (List ℤ)) (flows : List (List (VecDiff ℤ))) (news : List (List ℤ)) → IsGivenOrKept was given is → EachGoes PartShort olds flows news →
+  pick_short : (was : ℤ) (given : Option ℤ) (is : ℤ) (olds : List (List ℤ)) (flows : List (List (VecDiff ℤ))) (news : List (List ℤ)) → IsGivenOrKept was given is → EachGoes (PartShort most) olds flows news →
       GoesShort most (list_for olds was) (given_list (pick_gives (record { chooser = was; parts = olds })) given ++ chosen flows is [])
   pick_short was given is olds flows news same lists_short =
-      let part = λ (chooser : ℤ). chosen_goes {Goes = PartShort} [] [] (record { before = omega arith; stays = tt }) olds flows news chooser lists_short in
+      let part = λ (chooser : ℤ). (chosen_goes {Goes = PartShort most} [] [] (record { leads = record { lawful = tt; replay = refl }; short = record { before = omega arith; stays = tt } }) olds flows news chooser lists_short).short in
       let turn = pick_turns olds was given is same in
       record {
         before = (part was).before;
@@ -170,14 +155,34 @@ module _ (most : ℕ) where
 
 -- ---- lists
 
+-- the static bound is among the lengths of the longest part
+module _ {L : Type 0} (cap : L → ℕ) where
+  mutual
+    pub bound_within : (e : VecTree L) → vec_bound cap e ≤ vec_longest cap e
+    bound_within (vector l) = omega arith
+    bound_within (mapped f e) = bound_within e
+    bound_within (filtered p e) = bound_within e
+    bound_within (filtered_by e bank) = omega (arith, bound_within e)
+    bound_within (mapped_by e bank) = omega (arith, bound_within e)
+    bound_within (sorted f e) = bound_within e
+    bound_within (joined a b) = omega arith
+    bound_within (flattened e bank) = le-max_left _ _
+    bound_within (picked e bank) = omega (arith, greatest_within bank)
+    bound_within (keys_in m) = omega arith
+    bound_within (values_in m) = omega arith
+
+    pub greatest_within : (bank : VecTrees L) → greatest_bound cap bank ≤ vecs_longest cap bank
+    greatest_within no_lists = omega arith
+    greatest_within (more_lists e bank) = omega (arith, bound_within e, greatest_within bank)
+
 module _ {L : Type 0} (way : L → Way) (goes : (leaf : L) → GoesAhead (way leaf)) (short : (leaf : L) → length (list_in (before (way leaf))) ≤ (way leaf).source.plan.cap)
-    (short_map : (leaf : L) → length (entries_in (before (way leaf))) ≤ (way leaf).source.plan.cap) (most : ℕ) where
+    (short_map : (leaf : L) → length (entries_in (before (way leaf))) ≤ (way leaf).source.plan.cap) where
   abbrev cap : L → ℕ
   cap leaf = (way leaf).source.plan.cap
 
-  of_map_short : {gives : List (ℤ × ℤ) → MapDiff ℤ → List (VecDiff ℤ)} {view : List (ℤ × ℤ) → List ℤ} → FollowsMap gives view → (m : MapTree L) → map_bound cap m ≤ most →
+  of_map_short : (most : ℕ) → {gives : List (ℤ × ℤ) → MapDiff ℤ → List (VecDiff ℤ)} {view : List (ℤ × ℤ) → List ℤ} → FollowsMap gives view → (m : MapTree L) → map_bound cap m ≤ most →
       GoesShort most (view (entries_of (old way) m)) (of_map gives (entries_of (old way) m) (map_flow way m))
-  of_map_short follows m few =
+  of_map_short most follows m few =
       let below = map_flow_short way goes short_map most m few in
       let leads = map_flow_leads way goes m in
       record {
@@ -186,36 +191,42 @@ module _ {L : Type 0} (way : L → Way) (goes : (leaf : L) → GoesAhead (way le
       }
 
   mutual
-    flows_short : (e : VecTree L) → IsListBuilt e → vec_longest cap e ≤ most → GoesShort most (list_of (old way) e) (list_flow way e)
-    flows_short (vector leaf) is few = record {
+    pub flows_short : (most : ℕ) (e : VecTree L) → IsListBuilt e → vec_bound cap e ≤ most → GoesShort most (list_of (old way) e) (list_flow way e)
+    flows_short most (vector leaf) is few = record {
       before = le_trans (short leaf) few;
       stays = stays_for_more (cap leaf) most few _ _ (entering_short (before (way leaf)) (cap leaf) (passed (way leaf)) (short leaf));
     }
-    flows_short (mapped f e) is few = map_short most (image f) (list_of (old way) e) (list_flow way e) (flow_leads way goes e is).lawful (flows_short e is few)
-    flows_short (filtered p e) is few = through_short most (filter_keeps_up (passes p)) (list_of (old way) e) (list_flow way e) (flow_leads way goes e is).lawful (flows_short e is few)
-    flows_short (sorted f e) is few = through_short most (sorted_keeps_up (image f)) (list_of (old way) e) (list_flow way e) (flow_leads way goes e is).lawful (flows_short e is few)
-    flows_short (filtered_by e bank) is few =
-        let below = flows_short e is.0 (omega (arith, few)) in
+    flows_short most (mapped f e) is few = map_short most (image f) (list_of (old way) e) (list_flow way e) (flow_leads way goes e is).lawful (flows_short most e is few)
+    flows_short most (filtered p e) is few = through_short most (filter_keeps_up (passes p)) (list_of (old way) e) (list_flow way e) (flow_leads way goes e is).lawful (flows_short most e is few)
+    flows_short most (sorted f e) is few = through_short most (sorted_keeps_up (image f)) (list_of (old way) e) (list_flow way e) (flow_leads way goes e is).lawful (flows_short most e is few)
+    flows_short most (filtered_by e bank) is few =
+        let below = flows_short most e is.0 few in
         let leads = flow_leads way goes e is.0 in
         by_signals_short most filter_goes_by_signals (list_of (new way) e) (short_after most _ _ _ leads below) (signals_lead way goes bank is.1) _ _
         (through_leads (filter_keeps_up (is_let_in (signals_of (old way) bank))) (list_of (old way) e) (list_flow way e) (list_of (new way) e) leads)
         (through_short most (filter_keeps_up (is_let_in (signals_of (old way) bank))) (list_of (old way) e) (list_flow way e) leads.lawful below)
-    flows_short (mapped_by e bank) is few =
-        let below = flows_short e is.0 (omega (arith, few)) in
+    flows_short most (mapped_by e bank) is few =
+        let below = flows_short most e is.0 few in
         let leads = flow_leads way goes e is.0 in
         by_signals_short most map_goes_by_signals (list_of (new way) e) (short_after most _ _ _ leads below) (signals_lead way goes bank is.1) _ _
         (map_leads (raised_by (signals_of (old way) bank)) (list_of (old way) e) (list_flow way e) (list_of (new way) e) leads)
         (map_short most (raised_by (signals_of (old way) bank)) (list_of (old way) e) (list_flow way e) leads.lawful below)
-    flows_short (picked e bank) is few =
-        pick_short most (value_of (old way) e) (value_flow way e) (value_of (new way) e) (lists_of (old way) bank) (list_flows way bank) (lists_of (new way) bank) (signal_leads way goes e is.0) (lists_short bank is.1 (omega (arith, few)))
-    flows_short (keys_in m) is few = of_map_short keys_follow m few
-    flows_short (values_in m) is few = of_map_short values_follow m few
-    flows_short _ is few = absurd is
+    flows_short most (joined a b) is few =
+        halves_short (list_of (old way) a) (list_flow way a) (list_of (new way) a) (list_of (old way) b) (list_flow way b) (list_of (new way) b) (flow_leads way goes a is.0) (flow_leads way goes b is.1)
+        (vec_bound cap a) (vec_bound cap b) most few (flows_short (vec_bound cap a) a is.0 (omega arith)) (flows_short (vec_bound cap b) b is.1 (omega arith))
+    flows_short most (flattened e bank) is few =
+        short_for_more (vec_bound cap e * greatest_bound cap bank) most few _ _
+        (blocks_short (list_of (old way) e) (list_flow way e) (list_of (new way) e) (flow_leads way goes e is.0) (lists_of (old way) bank) (list_flows way bank) (lists_of (new way) bank)
+        (vec_bound cap e) (greatest_bound cap bank) (flows_short (vec_bound cap e) e is.0 (omega arith)) (lists_short (greatest_bound cap bank) bank is.1 (omega arith)))
+    flows_short most (picked e bank) is few =
+        pick_short most (value_of (old way) e) (value_flow way e) (value_of (new way) e) (lists_of (old way) bank) (list_flows way bank) (lists_of (new way) bank) (signal_leads way goes e is.0) (lists_short most bank is.1 few)
+    flows_short most (keys_in m) is few = of_map_short most keys_follow m few
+    flows_short most (values_in m) is few = of_map_short most values_follow m few
 
-    lists_short : (bank : VecTrees L) → AreListsBuilt bank → vecs_longest cap bank ≤ most → EachGoes (PartShort most) (lists_of (old way) bank) (list_flows way bank) (lists_of (new way) bank)
-    lists_short no_lists is few = no_part
-    lists_short (more_lists e bank) is few =
-        one_part (list_of (old way) e) (list_flow way e) (list_of (new way) e) (flows_short e is.0 (omega (arith, few))) (lists_short bank is.1 (omega (arith, few)))
+    pub lists_short : (most : ℕ) (bank : VecTrees L) → AreListsBuilt bank → greatest_bound cap bank ≤ most → EachGoes (PartShort most) (lists_of (old way) bank) (list_flows way bank) (lists_of (new way) bank)
+    lists_short most no_lists is few = no_part
+    lists_short most (more_lists e bank) is few =
+        one_part (list_of (old way) e) (list_flow way e) (list_of (new way) e) (record { leads = flow_leads way goes e is.0; short = flows_short most e is.0 (omega (arith, few)) }) (lists_short most bank is.1 (omega (arith, few)))
 
 -- ---- walks
 
@@ -229,13 +240,29 @@ module _ (s t : PortState) (old new : Progress) (can : CanWalk s old) (gone : Ha
   pub same_caps : cap_at (sources_in t new) ≡ cap_at (sources_in s old)
   same_caps = rw (same_sources s t old new can gone) (λ i leaf. cap_stays s t gone.looked old.first (length old.positions) leaf i)
 
-  -- the list that an operator stands for is short, and stays so on the way
-  pub goes_short : GoOn old.positions new.positions → (ops : ListOps) (most : ℕ) → vec_longest (cap_at (sources_in s old)) (list_tree ops) ≤ most →
-      GoesShort most (list_of (contents_at (sources_in s old) old.positions) (list_tree ops)) (list_flow (ways (sources_in t new) old.positions new.positions) (list_tree ops))
-  goes_short goes_on ops most few =
-      let short : (leaf : ℕ) → IsShort (leaf_source (sources_in t new) leaf) = λ leaf. seen_short t gone.can.sound new.first (length new.positions) leaf in
-      rw (← held_before s t old new can gone) (flows_short (ways (sources_in t new) old.positions new.positions) (never_back s t old new can gone goes_on) (λ leaf. short leaf (slice_index old.positions leaf)) (λ leaf. seen_map_short t gone.can.sound new.first (length new.positions) leaf (slice_index old.positions leaf)) most (list_tree ops) (list_is_built ops) (rw same_caps few))
+  module _ (goes_on : GoOn old.positions new.positions) where
+    each_short : (leaf : ℕ) → length (list_in (before (ways (sources_in t new) old.positions new.positions leaf))) ≤ (leaf_source (sources_in t new) leaf).plan.cap
+    each_short leaf = seen_short t gone.can.sound new.first (length new.positions) leaf (slice_index old.positions leaf)
 
-  pub carries_short : GoOn old.positions new.positions → (ops : ListOps) (most : ℕ) → vec_longest (cap_at (sources_in s old)) (list_tree ops) ≤ most →
-      StaysShort most (list_of (contents_at (sources_in s old) old.positions) (list_tree ops)) (list_flow (ways (sources_in t new) old.positions new.positions) (list_tree ops))
-  carries_short goes_on ops most few = (goes_short goes_on ops most few).stays
+    each_map_short : (leaf : ℕ) → length (entries_in (before (ways (sources_in t new) old.positions new.positions leaf))) ≤ (leaf_source (sources_in t new) leaf).plan.cap
+    each_map_short leaf = seen_map_short t gone.can.sound new.first (length new.positions) leaf (slice_index old.positions leaf)
+
+    -- the list that an operator stands for is short, and stays so on the way
+    pub goes_within : (ops : ListOps) (most : ℕ) → vec_bound (cap_at (sources_in s old)) (list_tree ops) ≤ most →
+        GoesShort most (list_of (contents_at (sources_in s old) old.positions) (list_tree ops)) (list_flow (ways (sources_in t new) old.positions new.positions) (list_tree ops))
+    goes_within ops most few =
+        rw (← held_before s t old new can gone) (flows_short (ways (sources_in t new) old.positions new.positions) (never_back s t old new can gone goes_on) each_short each_map_short most (list_tree ops) (list_is_built ops) (rw same_caps few))
+
+    -- and so are the lists of a bank
+    pub bank_within : (bank : ListsOps) (most : ℕ) → greatest_bound (cap_at (sources_in s old)) (list_trees bank) ≤ most →
+        EachGoes (PartShort most) (lists_of (contents_at (sources_in s old) old.positions) (list_trees bank)) (list_flows (ways (sources_in t new) old.positions new.positions) (list_trees bank)) (lists_of (contents_at (sources_in t new) new.positions) (list_trees bank))
+    bank_within bank most few =
+        rw (← held_before s t old new can gone) (lists_short (ways (sources_in t new) old.positions new.positions) (never_back s t old new can gone goes_on) each_short each_map_short most (list_trees bank) (lists_are_built bank) (rw same_caps few))
+
+    pub goes_short : (ops : ListOps) (most : ℕ) → vec_longest (cap_at (sources_in s old)) (list_tree ops) ≤ most →
+        GoesShort most (list_of (contents_at (sources_in s old) old.positions) (list_tree ops)) (list_flow (ways (sources_in t new) old.positions new.positions) (list_tree ops))
+    goes_short ops most few = goes_within ops most (le_trans (bound_within (cap_at (sources_in s old)) (list_tree ops)) few)
+
+    pub carries_short : (ops : ListOps) (most : ℕ) → vec_longest (cap_at (sources_in s old)) (list_tree ops) ≤ most →
+        StaysShort most (list_of (contents_at (sources_in s old) old.positions) (list_tree ops)) (list_flow (ways (sources_in t new) old.positions new.positions) (list_tree ops))
+    carries_short ops most few = (goes_short ops most few).stays

@@ -6,7 +6,7 @@ use Rattle.sig_expr.proofs.Awaiting.{agree_back, agree_front, map_same}
 use Rattle.sig_expr.specs.Awaited.{Agree}
 use Rattle.sig_expr.specs.Leaves.{sig_leaves, sigs_leaves, vec_leaves, vecs_leaves}
 use Rattle.sig_view.proofs.Along.{same_list, same_lists, same_signals, same_value}
-use Rattle.sig_view.specs.Nodes.{ListOps, ListStands, ListsOps, ListsStand, SignalOps, SignalStands, SignalsOps, SignalsStand, count_of, image_of, images, kept, keys_by, let_in, list_tree, list_trees, no_list, no_signal, number, one_list, one_signal, ordered, pick_of, raised, signal_tree, signal_trees, source, sum_of, switch_of, value_at_key, values_by, without_repeats}
+use Rattle.sig_view.specs.Nodes.{ListOps, ListStands, ListsOps, ListsStand, SignalOps, SignalStands, SignalsOps, SignalsStand, count_of, image_of, images, kept, keys_by, let_in, list_tree, list_trees, no_list, no_signal, number, one_list, one_signal, ordered, pick_of, raised, signal_tree, signal_trees, source, sum_of, switch_of, value_at_key, values_by, without_repeats, blocks_of, halves_of}
 
 module _ (s t : ℕ → Content) where
   mutual
@@ -23,6 +23,14 @@ module _ (s t : ℕ → Content) where
         let one = agree_front s t (vec_leaves (list_tree ops)) (sigs_leaves (signal_trees bank)) agree in
         let others = agree_back s t (vec_leaves (list_tree ops)) (sigs_leaves (signal_trees bank)) agree in
         (stands.0 ∙ same_list s t (list_tree ops) one, stands.1 ∙ same_signals s t (signal_trees bank) others, list_stands ops one stands.2, signals_stand bank others stands.3)
+    list_stands (halves_of halves left right) agree stands =
+        let one = agree_front s t (vec_leaves (list_tree left)) (vec_leaves (list_tree right)) agree in
+        let other = agree_back s t (vec_leaves (list_tree left)) (vec_leaves (list_tree right)) agree in
+        (stands.0 ∙ ap length (same_list s t (list_tree left) one), stands.1 ∙ ap length (same_list s t (list_tree right) other), list_stands left one stands.2, list_stands right other stands.3)
+    list_stands (blocks_of blocks ops bank) agree stands =
+        let one = agree_front s t (vec_leaves (list_tree ops)) (vecs_leaves (list_trees bank)) agree in
+        let others = agree_back s t (vec_leaves (list_tree ops)) (vecs_leaves (list_trees bank)) agree in
+        (stands.0 ∙ same_list s t (list_tree ops) one, stands.1 ∙ same_lists s t (list_trees bank) others, list_stands ops one stands.2, lists_stand bank others stands.3)
     list_stands (pick_of choice ops bank) agree stands =
         let one = agree_front s t (sig_leaves (signal_tree ops)) (vecs_leaves (list_trees bank)) agree in
         let others = agree_back s t (sig_leaves (signal_tree ops)) (vecs_leaves (list_trees bank)) agree in

@@ -3,9 +3,11 @@ use Rattle.std.proofs.Common.{◌≡◌, List, ℕ, ℤ, Box, Global, rules}
 use Rattle.sig_bank.specs.Banks.{BySignals, Choice}
 use Rattle.sig_expr.specs.declared.functions.Fun.{Fun}
 use Rattle.sig_expr.specs.declared.functions.Pred.{Pred}
+use Rattle.sig_flat.specs.Flattening.{Blocks}
+use Rattle.sig_flat.specs.Joining.{Halves}
 use Rattle.sig_ops.specs.Filters.{Filter}
 use Rattle.sig_sort.specs.Sorted.{SortedList}
-use Rattle.sig_view.specs.Nodes.{count_of, image_of, images, kept, let_in, list_ops, lists_ops, one_list, one_signal, ordered, pick_of, raised, signal_ops, signals_ops, sum_of, switch_of, without_repeats}
+use Rattle.sig_view.specs.Nodes.{blocks_of, count_of, halves_of, image_of, images, kept, let_in, list_ops, lists_ops, one_list, one_signal, ordered, pick_of, raised, signal_ops, signals_ops, sum_of, switch_of, without_repeats}
 use Rattle.sig_view.specs.declared.nodes.ListBank
 use Rattle.sig_view.specs.declared.nodes.ListBank.{ListBank}
 use Rattle.sig_view.specs.declared.nodes.ListNode
@@ -31,6 +33,12 @@ ops_of_filter_by op of bank = search (rules, ListNode.the_lemmas)
 
 pub ops_of_map_by : (op : BySignals) (of : Box ListNode Global) (bank : Box SignalBank Global) → list_ops (ListNode.MapBy op of bank) ≡ raised op (list_ops of.value) (signals_ops bank.value)
 ops_of_map_by op of bank = search (rules, ListNode.the_lemmas)
+
+pub ops_of_concat : (op : Halves) (left right : Box ListNode Global) → list_ops (ListNode.Concat op left right) ≡ halves_of op (list_ops left.value) (list_ops right.value)
+ops_of_concat op left right = search (rules, ListNode.the_lemmas)
+
+pub ops_of_flatten : (op : Blocks) (of : Box ListNode Global) (bank : Box ListBank Global) → list_ops (ListNode.Flatten op of bank) ≡ blocks_of op (list_ops of.value) (lists_ops bank.value)
+ops_of_flatten op of bank = search (rules, ListNode.the_lemmas)
 
 pub ops_of_pick : (op : Choice (List ℤ)) (of : Box SignalNode Global) (bank : Box ListBank Global) → list_ops (ListNode.Pick op of bank) ≡ pick_of op (signal_ops of.value) (lists_ops bank.value)
 ops_of_pick op of bank = search (rules, ListNode.the_lemmas)
@@ -78,6 +86,14 @@ filter_by_ops node below others op of bank is at also = rw (is, at, also) (ops_o
 pub map_by_ops : (node below : ListNode) (others : SignalBank) (op : BySignals) (of : Box ListNode Global) (bank : Box SignalBank Global) → node ≡ ListNode.MapBy op of bank → below ≡ of.value → others ≡ bank.value →
     list_ops node ≡ raised op (list_ops below) (signals_ops others)
 map_by_ops node below others op of bank is at also = rw (is, at, also) (ops_of_map_by op of bank)
+
+pub concat_ops : (node below other : ListNode) (op : Halves) (left right : Box ListNode Global) → node ≡ ListNode.Concat op left right → below ≡ left.value → other ≡ right.value →
+    list_ops node ≡ halves_of op (list_ops below) (list_ops other)
+concat_ops node below other op left right is at also = rw (is, at, also) (ops_of_concat op left right)
+
+pub flatten_ops : (node below : ListNode) (others : ListBank) (op : Blocks) (of : Box ListNode Global) (bank : Box ListBank Global) → node ≡ ListNode.Flatten op of bank → below ≡ of.value → others ≡ bank.value →
+    list_ops node ≡ blocks_of op (list_ops below) (lists_ops others)
+flatten_ops node below others op of bank is at also = rw (is, at, also) (ops_of_flatten op of bank)
 
 pub pick_ops : (node : ListNode) (below : SignalNode) (others : ListBank) (op : Choice (List ℤ)) (of : Box SignalNode Global) (bank : Box ListBank Global) → node ≡ ListNode.Pick op of bank → below ≡ of.value → others ≡ bank.value →
     list_ops node ≡ pick_of op (signal_ops below) (lists_ops others)

@@ -1,5 +1,5 @@
 -- The expressions whose operators are built.
-use Rattle.sig_expr.specs.Trees.{SigTree, cell, mapped_signal, deduped, switched, length_of, total_of, at_key, VecTree, vector, mapped, filtered, filtered_by, mapped_by, sorted, picked, keys_in, values_in, SigTrees, no_signals, more_signals, VecTrees, no_lists, more_lists, ViewTree, signal_view, vector_view, map_view, entries_view, tagged_view}
+use Rattle.sig_expr.specs.Trees.{SigTree, cell, mapped_signal, deduped, switched, length_of, total_of, at_key, VecTree, vector, mapped, filtered, filtered_by, mapped_by, sorted, picked, keys_in, values_in, SigTrees, no_signals, more_signals, VecTrees, no_lists, more_lists, ViewTree, signal_view, vector_view, map_view, entries_view, tagged_view, joined, flattened, MapTree, map_source}
 
 module _ {L : Type 0} where
   abbrev mutual
@@ -10,6 +10,8 @@ module _ {L : Type 0} where
     IsListBuilt (sorted f e) = IsListBuilt e
     IsListBuilt (filtered_by e bank) = IsListBuilt e × AreSignalsBuilt bank
     IsListBuilt (mapped_by e bank) = IsListBuilt e × AreSignalsBuilt bank
+    IsListBuilt (joined a b) = IsListBuilt a × IsListBuilt b
+    IsListBuilt (flattened e bank) = IsListBuilt e × AreListsBuilt bank
     IsListBuilt (picked e bank) = IsSignalBuilt e × AreListsBuilt bank
     IsListBuilt (keys_in m) = Unit {0}
     IsListBuilt (values_in m) = Unit {0}

@@ -1,7 +1,7 @@
 -- What a view gives as its leaves go on along the histories of their sources.
 use Rattle.std.specs.Prelude.{ℕ, ◌+◌, ◌≤◌, ℤ, pos, List, [], ◌∷◌, ◌++◌, length, take, drop, Option, None, Some, option_map, option_and_then}
 use Rattle.std.specs.Option.{option_map_or, option_or, unwrap_or}
-use Rattle.std.specs.List.{flat_map}
+use Rattle.std.specs.List.{flat_map, fold}
 use Rattle.sig_bank.specs.Banks.{BySignals, signals_next}
 use Rattle.sig_bank.specs.Tables.{filter_by_signal, map_by_signal, pick_gives, switch_gives}
 use Rattle.sig_diff.specs.Choosing.{chosen, is_let_in, raised_by}
@@ -17,10 +17,12 @@ use Rattle.sig_diff.specs.declared.map_differences.MapDiff.TheVariants as change
 use Rattle.sig_expr.specs.Functions.{image, passes}
 use Rattle.sig_expr.specs.Scratch.{entries_of, list_of, lists_of, signals_of, value_of}
 use Rattle.sig_expr.specs.Shows.{shows}
-use Rattle.sig_expr.specs.Trees.{MapTree, map_source, mapped_values, SigTree, cell, mapped_signal, deduped, switched, length_of, total_of, at_key, VecTree, vector, mapped, filtered, filtered_by, mapped_by, sorted, picked, keys_in, values_in, SigTrees, no_signals, more_signals, VecTrees, no_lists, more_lists, ViewTree, signal_view, vector_view, map_view, entries_view, tagged_view}
+use Rattle.sig_expr.specs.Trees.{MapTree, map_source, mapped_values, SigTree, cell, mapped_signal, deduped, switched, length_of, total_of, at_key, VecTree, vector, mapped, filtered, filtered_by, mapped_by, sorted, picked, keys_in, values_in, SigTrees, no_signals, more_signals, VecTrees, no_lists, more_lists, ViewTree, signal_view, vector_view, map_view, entries_view, tagged_view, joined, flattened}
 use Rattle.sig_expr.specs.declared.shown.Shown.{Shown}
 use Rattle.sig_expr.specs.declared.shown.Shown.TheVariants as shown
 use Rattle.sig_hist.specs.Changes.{IsInOrder}
+use Rattle.sig_flat.specs.Flattening.{Blocks, bank_gives, bank_next, outer_gives, outer_next}
+use Rattle.sig_flat.specs.Joining.{Halves, joined_gives, joined_next}
 use Rattle.sig_hist.specs.Entering.{list_entering, map_entering, number_entering}
 use Rattle.sig_hist.specs.Histories.{state}
 use Rattle.sig_hist.specs.Sources.{Source}
@@ -72,6 +74,26 @@ given_along gives next op (diff ∷ diffs) = gives op diff ++ given_along gives 
 abbrev pub of_map : {U : Type 0} → (List (ℤ × ℤ) → MapDiff ℤ → List (VecDiff U)) → List (ℤ × ℤ) → List (MapDiff ℤ) → List (VecDiff U)
 of_map gives = given_along gives map_applied
 
+-- what two lists, one behind the other, give for differences of one of them
+abbrev pub half_flow : ℕ → Halves → List (VecDiff ℤ) → List (VecDiff ℤ)
+half_flow child = given_along (λ op. joined_gives op child) (λ op. joined_next op child)
+
+-- what blocks give for differences of the list at a place of the bank, and what they are after those
+abbrev pub part_flow : ℕ → Blocks → List (VecDiff ℤ) → List (VecDiff ℤ)
+part_flow place = given_along (λ op. bank_gives op place) (λ op. bank_next op place)
+
+abbrev pub after_part : ℕ → Blocks → List (VecDiff ℤ) → Blocks
+after_part place = fold (λ op. bank_next op place)
+
+-- and for what each list of the bank in turn gives, from this place on
+abbrev pub parts_flow : ℕ → Blocks → List (List (VecDiff ℤ)) → List (VecDiff ℤ)
+parts_flow place op [] = []
+parts_flow place op (diffs ∷ more) = part_flow place op diffs ++ parts_flow (place + 1) (after_part place op diffs) more
+
+abbrev pub after_parts : ℕ → Blocks → List (List (VecDiff ℤ)) → Blocks
+after_parts place op [] = op
+after_parts place op (diffs ∷ more) = after_parts (place + 1) (after_part place op diffs) more
+
 -- what an operator gives where a signal gives a value, if it gives one
 abbrev pub given_list : {A : Type 0} → (ℤ → List A) → Option ℤ → List A
 given_list gives value = option_map_or gives value []
@@ -112,6 +134,12 @@ module _ {L : Type 0} (way : L → Way) where
     list_flow (mapped_by e bank) =
         flat_map (map_gives (raised_by (signals_of old bank))) (list_flow e)
         ++ by_signals map_by_signal (record { items = list_of new e; signals = signals_of old bank }) 0 (value_flows bank)
+    list_flow (joined a b) =
+        half_flow 0 (record { left = length (list_of old a); right = length (list_of old b) }) (list_flow a)
+        ++ half_flow 1 (record { left = length (list_of new a); right = length (list_of old b) }) (list_flow b)
+    list_flow (flattened e bank) =
+        given_along outer_gives outer_next (record { outer = list_of old e; parts = lists_of old bank }) (list_flow e)
+        ++ parts_flow 0 (record { outer = list_of new e; parts = lists_of old bank }) (list_flows bank)
     list_flow (picked e bank) =
         given_list (pick_gives (record { chooser = value_of old e; parts = lists_of old bank })) (value_flow e)
         ++ chosen (list_flows bank) (value_of new e) []

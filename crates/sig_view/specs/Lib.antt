@@ -7,6 +7,7 @@ pub mod Walking
 pub mod Nodes
 pub mod Starting
 pub mod Steps
+pub mod Joins
 pub mod Fetching
 pub mod Tasks
 pub mod Polling

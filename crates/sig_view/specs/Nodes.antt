@@ -6,11 +6,13 @@ use Rattle.sig_diff.specs.Sorting.{by_key, in_order}
 use Rattle.sig_diff.specs.declared.contents.Content.{Content}
 use Rattle.sig_expr.specs.Functions.{image}
 use Rattle.sig_expr.specs.Scratch.{entries_of, list_of, lists_of, signals_of, value_of}
-use Rattle.sig_expr.specs.Trees.{SigTree, cell, mapped_signal, deduped, switched, length_of, total_of, at_key, VecTree, vector, mapped, filtered, filtered_by, mapped_by, sorted, picked, keys_in, values_in, SigTrees, no_signals, more_signals, VecTrees, no_lists, more_lists, MapTree, map_source, mapped_values, ViewTree, signal_view, vector_view, map_view, entries_view, tagged_view}
+use Rattle.sig_expr.specs.Trees.{SigTree, cell, mapped_signal, deduped, switched, length_of, total_of, at_key, VecTree, vector, mapped, filtered, filtered_by, mapped_by, sorted, picked, keys_in, values_in, SigTrees, no_signals, more_signals, VecTrees, no_lists, more_lists, MapTree, map_source, mapped_values, ViewTree, signal_view, vector_view, map_view, entries_view, tagged_view, joined, flattened}
 use Rattle.sig_expr.specs.declared.functions.Fun.{Fun}
 use Rattle.sig_expr.specs.declared.functions.Pred.{Pred}
 use Rattle.sig_maps.specs.Keys.{KeyView}
 use Rattle.sig_ops.specs.Enumerating.{Enumeration, IsEnumeration}
+use Rattle.sig_flat.specs.Flattening.{Blocks}
+use Rattle.sig_flat.specs.Joining.{Halves}
 use Rattle.sig_ops.specs.Filters.{Filter}
 use Rattle.sig_sort.specs.Sorted.{SortedList}
 use Rattle.sig_view.specs.declared.nodes.MapNode.{MapNode, MapNode-F, fold-MapNode}
@@ -32,6 +34,8 @@ mutual
     ordered : SortedList Fun → ListOps → ListOps
     let_in : BySignals → ListOps → SignalsOps → ListOps
     raised : BySignals → ListOps → SignalsOps → ListOps
+    halves_of : Halves → ListOps → ListOps → ListOps
+    blocks_of : Blocks → ListOps → ListsOps → ListOps
     pick_of : Choice (List ℤ) → SignalOps → ListsOps → ListOps
     keys_by : List (ℤ × ℤ) → MapTree ℕ → ListOps
     values_by : List (ℤ × ℤ) → MapTree ℕ → ListOps
@@ -78,6 +82,8 @@ list_step (ListNode-F.Filter filter of) = kept filter of.value
 list_step (ListNode-F.Sorted list of) = ordered list of.value
 list_step (ListNode-F.FilterBy by of bank) = let_in by of.value bank.value
 list_step (ListNode-F.MapBy by of bank) = raised by of.value bank.value
+list_step (ListNode-F.Concat halves left right) = halves_of halves left.value right.value
+list_step (ListNode-F.Flatten blocks of bank) = blocks_of blocks of.value bank.value
 list_step (ListNode-F.Pick choice of bank) = pick_of choice of.value bank.value
 list_step (ListNode-F.Keys entries of) = keys_by entries (map_ops of)
 list_step (ListNode-F.Values entries of) = values_by entries (map_ops of)
@@ -121,6 +127,8 @@ abbrev mutual
   list_tree (ordered list ops) = sorted list.mapper (list_tree ops)
   list_tree (let_in by ops bank) = filtered_by (list_tree ops) (signal_trees bank)
   list_tree (raised by ops bank) = mapped_by (list_tree ops) (signal_trees bank)
+  list_tree (halves_of halves left right) = joined (list_tree left) (list_tree right)
+  list_tree (blocks_of blocks ops bank) = flattened (list_tree ops) (list_trees bank)
   list_tree (pick_of choice ops bank) = picked (signal_tree ops) (list_trees bank)
   list_tree (keys_by entries m) = keys_in m
   list_tree (values_by entries m) = values_in m
@@ -155,6 +163,10 @@ abbrev mutual
       (by.items ≡ list_of s (list_tree ops)) × (by.signals ≡ signals_of s (signal_trees bank)) × ListStands s ops × SignalsStand s bank
   ListStands s (raised by ops bank) =
       (by.items ≡ list_of s (list_tree ops)) × (by.signals ≡ signals_of s (signal_trees bank)) × ListStands s ops × SignalsStand s bank
+  ListStands s (halves_of halves left right) =
+      (halves.left ≡ length (list_of s (list_tree left))) × (halves.right ≡ length (list_of s (list_tree right))) × ListStands s left × ListStands s right
+  ListStands s (blocks_of blocks ops bank) =
+      (blocks.outer ≡ list_of s (list_tree ops)) × (blocks.parts ≡ lists_of s (list_trees bank)) × ListStands s ops × ListsStand s bank
   ListStands s (pick_of choice ops bank) =
       (choice.chooser ≡ value_of s (signal_tree ops)) × (choice.parts ≡ lists_of s (list_trees bank)) × SignalStands s ops × ListsStand s bank
   ListStands s (keys_by entries m) = entries ≡ entries_of s m

@@ -90,6 +90,14 @@ module _ (s t : PortState) (old new : Progress) where
     pub stands : SignalsStand (contents_at (sources_in t new) new.positions) after
     pub tree : signal_trees after ≡ signal_trees bank
 
+  -- all lists of a bank
+  pub record ListsGone (bank after : ListsOps) (before lists : List (List (VecDiff ℤ))) : Type 0 where
+    pub gone : HasGone s t old new
+    pub walked : HasWalked s t old new (all_of (each_vec_awaits (contents_at (sources_in t new) new.positions) (list_trees bank)))
+    pub flow : lists ≡ before ++ list_flows (ways (sources_in t new) old.positions new.positions) (list_trees bank)
+    pub stands : ListsStand (contents_at (sources_in t new) new.positions) after
+    pub tree : list_trees after ≡ list_trees bank
+
   pub record ListAtGone (place : ℕ) (bank after : ListsOps) (diffs : List (VecDiff ℤ)) : Type 0 where
     pub gone : HasGone s t old new
     pub walked : HasWalked s t old new (get_or (each_vec_awaits (contents_at (sources_in t new) new.positions) (list_trees bank)) place [])

@@ -1,6 +1,6 @@
 ghost use Rattle.std.specs.Prelude.{◌≡◌, IfOk, OnOk};
 ghost use Rattle.sig_view.specs.Nodes.{has_no_list, has_no_signal, lists_ops, signals_ops};
-ghost use Rattle.sig_view.specs.Steps.{ListAtGone, ListsMayGo, SignalAtGone, SignalsGone, SignalsMayGo};
+ghost use Rattle.sig_view.specs.Steps.{ListAtGone, ListsGone, ListsMayGo, SignalAtGone, SignalsGone, SignalsMayGo};
 ghost use Rattle.sig_view.specs.Walking.{HasGone};
 
 use crate::nodes::{ListBank, SignalBank};
@@ -68,6 +68,30 @@ impl SignalBank {
 }
 
 impl ListBank {
+    /// Takes the leaves of all lists along, from left to right, and adds what each of them gives for that.
+    #[cycle(walk)]
+    pub fn step<P: Port>(
+        &mut self,
+        alloc: Global,
+        port: &mut P,
+        walk: &mut Walk,
+        lists: &mut Vec<Diffs<i64>>,
+    ) -> Result<(), NoMemory>
+        requires may_go { ListsMayGo (P.state port.old) walk.old (lists_ops self.old) }
+        ensures same { P.is_same port.old port.new }
+        ensures gone { HasGone (P.state port.old) (P.state port.new) walk.old walk.new }
+        ensures taken { OnOk result (ListsGone (P.state port.old) (P.state port.new) walk.old walk.new (lists_ops self.old) (lists_ops self.new) lists.old.items lists.new.items) }
+    {
+        match self {
+            ListBank::Empty => Ok(()),
+            ListBank::List(list, others) => {
+                let diffs = list.step(alloc, port, walk)?;
+                lists.push(diffs)?;
+                others.step(alloc, port, walk, lists)
+            }
+        }
+    }
+
     /// Takes the leaves of the list at a place along, and gives what it gives for that: nothing where there is none.
     #[cycle(walk)]
     pub fn step_at<P: Port>(

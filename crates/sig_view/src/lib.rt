@@ -4,6 +4,7 @@
 mod banks;
 mod choosing;
 mod fetching;
+mod joining;
 mod lists;
 mod maps;
 mod nodes;

@@ -11,6 +11,7 @@ ghost use Rattle.sig_view.specs.Steps.{ListGone, ListMayGo};
 ghost use Rattle.sig_view.specs.Walking.{HasGone, list_entered};
 
 use crate::choosing::{chosen_anew, filtered_by, mapped_by, picked};
+use crate::joining::{flattened, joined};
 use crate::maps::{keys, values};
 use crate::nodes::ListNode;
 use crate::walk::Walk;
@@ -60,6 +61,17 @@ impl ListNode {
                 let mut values = Vec::new(alloc);
                 bank.step(alloc, port, walk, &mut values)?;
                 mapped_by(alloc, op, &diffs, values.as_slice())
+            }
+            ListNode::Concat(op, left, right) => {
+                let lefts = left.step(alloc, port, walk)?;
+                let rights = right.step(alloc, port, walk)?;
+                joined(alloc, op, &lefts, &rights)
+            }
+            ListNode::Flatten(op, of, bank) => {
+                let diffs = of.step(alloc, port, walk)?;
+                let mut lists = Vec::new(alloc);
+                bank.step(alloc, port, walk, &mut lists)?;
+                flattened(alloc, op, &diffs, lists.as_slice())
             }
             ListNode::Pick(op, of, bank) => {
                 let chooser = of.step(alloc, port, walk)?;

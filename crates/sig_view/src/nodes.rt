@@ -1,5 +1,6 @@
 use sig_bank::{FilterBy, MapBy, Pick, Switch};
 use sig_expr::{Fun, Pred};
+use sig_flat::{Concat, Flatten};
 use sig_maps::{EntriesOp, KeyOf, KeysOp, MapValue, ValuesOp};
 use sig_ops::{Dedupe, EnumerateOp, FilterOp, LenOp, MapOp, SumOp};
 use sig_sort::SortedOp;
@@ -23,6 +24,8 @@ pub enum ListNode {
     Sorted(SortedOp<Fun>, Box<ListNode>),
     FilterBy(FilterBy, Box<ListNode>, Box<SignalBank>),
     MapBy(MapBy, Box<ListNode>, Box<SignalBank>),
+    Concat(Concat, Box<ListNode>, Box<ListNode>),
+    Flatten(Flatten, Box<ListNode>, Box<ListBank>),
     Pick(Pick, Box<SignalNode>, Box<ListBank>),
     Keys(KeysOp, MapNode),
     Values(ValuesOp, MapNode),

@@ -17,8 +17,8 @@ use crate::nodes::{ListBank, ListNode, MapNode, SignalBank, SignalNode, ViewNode
 use crate::rows::Body;
 use crate::starting_banks::{list_bank, signal_bank};
 use crate::starting_lists::{
-    list_filtered, list_filtered_by, list_keys, list_mapped, list_mapped_by, list_picked,
-    list_sorted, list_values,
+    list_filtered, list_filtered_by, list_flattened, list_joined, list_keys, list_mapped,
+    list_mapped_by, list_picked, list_sorted, list_values,
 };
 use crate::starting_signals::{
     signal_deduped, signal_key, signal_len, signal_mapped, signal_sum, signal_switched,
@@ -142,6 +142,18 @@ fn list_node(
             let (of, items) = list_node(alloc, of.get(), contents, leaf)?;
             let (bank, values) = signal_bank_nodes(alloc, bank.as_slice(), contents, behind)?;
             list_mapped_by(alloc, of, items, bank, values)
+        }
+        VecExpr::Concat(left, right) => {
+            let behind = leaf + list_leaves(left.get());
+            let (left, lefts) = list_node(alloc, left.get(), contents, leaf)?;
+            let (right, rights) = list_node(alloc, right.get(), contents, behind)?;
+            list_joined(alloc, left, lefts, right, rights)
+        }
+        VecExpr::Flatten(of, bank) => {
+            let behind = leaf + list_leaves(of.get());
+            let (of, items) = list_node(alloc, of.get(), contents, leaf)?;
+            let (bank, parts) = list_bank_nodes(alloc, bank.as_slice(), contents, behind)?;
+            list_flattened(alloc, of, items, bank, parts)
         }
         VecExpr::Pick(of, bank) => {
             let behind = leaf + signal_leaves(of.get());

@@ -1,16 +1,17 @@
-ghost use Rattle.std.specs.Prelude.{◌≡◌, ◌≤◌, length, map, filter, IfOk};
-ghost use Rattle.std.specs.List.{All};
+ghost use Rattle.std.specs.Prelude.{◌≡◌, ◌≤◌, ◌+◌, ◌++◌, length, map, filter, IfOk};
+ghost use Rattle.std.specs.List.{All, flat_map};
 ghost use Rattle.sig_diff.specs.Choosing.{is_let_in, list_for, raised_by};
 ghost use Rattle.sig_diff.specs.Entries.{keys_of, values_of};
 ghost use Rattle.sig_diff.specs.Sorting.{by_key, in_order};
 ghost use Rattle.sig_expr.specs.Functions.{image, passes};
 ghost use Rattle.sig_sort.specs.Sorted.{sorted_of};
-ghost use Rattle.sig_view.specs.Nodes.{images, kept, keys_by, let_in, list_ops, lists_ops, map_ops, ordered, pick_of, raised, signal_ops, signals_ops, values_by};
+ghost use Rattle.sig_view.specs.Nodes.{images, kept, keys_by, let_in, list_ops, lists_ops, map_ops, ordered, pick_of, raised, signal_ops, signals_ops, values_by, blocks_of, halves_of};
 
 use crate::nodes::{ListBank, ListNode, MapNode, SignalBank, SignalNode};
 use sig_bank::{FilterBy, MapBy, Pick};
 use sig_diff::{Entries, Items, Lists, NoMemory};
 use sig_expr::{Fun, Pred};
+use sig_flat::{Concat, Flatten};
 use sig_maps::{KeysOp, ValuesOp};
 use sig_ops::{FilterOp, MapOp, VecOp};
 use sig_sort::SortedOp;
@@ -125,6 +126,44 @@ pub fn list_picked(
     let chosen = op.start(chooser, &lists)?;
     let of = Box::new(alloc, of)?;
     Ok((ListNode::Pick(op, of, Box::new(alloc, bank)?), chosen))
+}
+
+/// Two lists, one behind the other.
+pub fn list_joined(
+    alloc: Global,
+    left: ListNode,
+    lefts: Items<i64>,
+    right: ListNode,
+    rights: Items<i64>,
+) -> Result<(ListNode, Items<i64>), NoMemory>
+    requires short { length lefts + length rights ≤ 65536 }
+    ensures ops { IfOk result (λ made. list_ops made.0 ≡ halves_of (record { left = length lefts; right = length rights }) (list_ops left) (list_ops right)) }
+    ensures items { IfOk result (λ made. made.1 ≡ lefts ++ rights) }
+    ensures short { IfOk result (λ made. length made.1 ≤ 65536) }
+{
+    let mut op = Concat::new(alloc);
+    let both = op.start(&lefts, &rights)?;
+    let left = Box::new(alloc, left)?;
+    Ok((ListNode::Concat(op, left, Box::new(alloc, right)?), both))
+}
+
+/// For each element of a list the whole list of a bank that it chooses.
+pub fn list_flattened(
+    alloc: Global,
+    of: ListNode,
+    items: Items<i64>,
+    bank: ListBank,
+    lists: Lists,
+) -> Result<(ListNode, Items<i64>), NoMemory>
+    requires short { length (flat_map (list_for lists) items) ≤ 65536 }
+    ensures ops { IfOk result (λ made. list_ops made.0 ≡ blocks_of (record { outer = items; parts = lists }) (list_ops of) (lists_ops bank)) }
+    ensures items { IfOk result (λ made. made.1 ≡ flat_map (list_for lists) items) }
+    ensures short { IfOk result (λ made. length made.1 ≤ 65536) }
+{
+    let mut op = Flatten::new(alloc);
+    let blocks = op.start(&items, &lists)?;
+    let of = Box::new(alloc, of)?;
+    Ok((ListNode::Flatten(op, of, Box::new(alloc, bank)?), blocks))
 }
 
 /// The keys of a map.

@@ -1,12 +1,14 @@
 use Rattle.std.proofs.Common.{◌≡◌, ◌∙◌, ◌-◌, suc, rules, refl, sym, arith, ◌+◌}
 use Rattle.std.proofs.lemmas.Result.{IfOk-weaker, on_ok_weaker}
+use Rattle.sig_view.proofs.ByBlocks.{all_lists_gone, blocks_bank, blocks_gone, blocks_may_flatten, no_lists_gone, outer_may_go, rest_lists_may_go}
+use Rattle.sig_view.proofs.ByHalves.{halves_gone, halves_may_join, left_may_go, right_may_go}
 use Rattle.sig_view.proofs.Composing.{gone_again, still_gone}
 use Rattle.sig_view.proofs.ListArms.{filter_gone, filter_lawful, let_in_bank, let_in_each, let_in_few, let_in_gone, let_in_lawful, let_in_may_go, map_gone, pick_bank, pick_gone, pick_gone_empty, pick_lawful, pick_may_go, raised_bank, raised_each, raised_few, raised_gone, raised_lawful, raised_may_go, sorted_few, sorted_gone, sorted_lawful, sorted_order, sorted_short}
 use Rattle.sig_view.proofs.MapArms.{key_gone, keys_go, keys_gone, values_go, values_gone}
 use Rattle.sig_view.proofs.MapTrees.{key_ops, keys_ops, ops_of_key, ops_of_keys, ops_of_values, values_ops}
 use Rattle.sig_view.proofs.Results.{if_ok_also}
 use Rattle.sig_view.proofs.SignalArms.{all_gone, dedupe_gone, first_gone, first_list_gone, first_list_may_go, first_may_go, image_gone, length_gone, length_lawful, length_short, no_list_gone, none_at_gone, none_gone, other_gone, other_list_gone, other_lists_may_go, others_may_go, rest_may_go, switch_bank, switch_gone, switch_gone_empty, switch_may_go, total_gone, total_lawful, total_short}
-use Rattle.sig_view.proofs.Trees.{bank_ops, dedupe_ops, filter_by_ops, filter_ops, image_ops, length_ops, list_bank_ops, map_by_ops, map_ops, ops_of_dedupe, ops_of_filter, ops_of_filter_by, ops_of_image, ops_of_length, ops_of_lists, ops_of_map, ops_of_map_by, ops_of_pick, ops_of_signals, ops_of_sorted, ops_of_switch, ops_of_total, pick_ops, sorted_ops, switch_ops, total_ops}
+use Rattle.sig_view.proofs.Trees.{bank_ops, dedupe_ops, filter_by_ops, filter_ops, image_ops, length_ops, list_bank_ops, map_by_ops, map_ops, ops_of_dedupe, ops_of_filter, ops_of_filter_by, ops_of_image, ops_of_length, ops_of_lists, ops_of_map, ops_of_map_by, ops_of_pick, ops_of_signals, ops_of_sorted, ops_of_switch, ops_of_total, pick_ops, sorted_ops, switch_ops, total_ops, concat_ops, flatten_ops, ops_of_concat, ops_of_flatten}
 use Rattle.sig_view.specs.Nodes.{list_ops, lists_ops, map_ops as operators, no_list, no_signal, signal_ops, signals_ops}
 use Rattle.sig_view.specs.declared.nodes.ListBank
 use Rattle.sig_view.specs.declared.nodes.ListNode
@@ -129,6 +131,62 @@ pub ListNode::step-returns-in_ok-step-in-MapBy-clause-taken : goal.ListNode::ste
 ListNode::step-returns-in_ok-step-in-MapBy-clause-taken g t c =
     let ops = map_by_ops c.args.self.now c.deref_mut-in-MapBy.result.now c.deref_mut-in-MapBy-2.result.now c.in-MapBy.op c.in-MapBy.of c.in-MapBy.bank c.in-MapBy.is c.deref_mut-in-MapBy.ensures.value c.deref_mut-in-MapBy-2.ensures.value in
     if_ok_also c.mapped_by.result _ _ _ (λ given is same. rw (ops, ops_of_map_by) (raised_gone (g.P.Port.state c.args.port.now) (g.P.Port.state c.step-in-MapBy.new.port) c.args.walk.now c.step-in-MapBy.new.walk c.in-MapBy.op (list_ops c.deref_mut-in-MapBy.result.now) (list_ops c.step-in-MapBy.new.self) (signals_ops c.deref_mut-in-MapBy-2.result.now) c.in_ok-diffs-in-MapBy.diffs c.in_ok-diffs-in-MapBy.ensures.taken (rw ops at c.requires.may_go) (g.P.Port.state c.step-in-MapBy-2.new.port) c.step-in-MapBy-2.new.walk (signals_ops c.step-in-MapBy-2.new.self) c.step-in-MapBy-2.new.values.items (rw c.new-values-in-MapBy.ensures.items at c.in_ok-step-in-MapBy.ensures.taken) c.mapped_by.new.op given same is)) (rw c.as_slice-in-MapBy.ensures.value at c.mapped_by.ensures.given) (rw c.as_slice-in-MapBy.ensures.value at c.mapped_by.ensures.state)
+
+pub ListNode::step-step-requires-in-Concat : goal.ListNode::step-step-requires-in-Concat
+ListNode::step-step-requires-in-Concat g t c κs within =
+    let ops = concat_ops c.args.self.now c.deref_mut-in-Concat.result.now c.in-Concat.right.value c.in-Concat.op c.in-Concat.left c.in-Concat.right c.in-Concat.is c.deref_mut-in-Concat.ensures.value refl in
+    (search (rules, ListNode.the_lemmas, c.decreases, c.in-Concat.is, c.deref_mut-in-Concat.ensures.value), (within.0, (within.1, left_may_go (g.P.Port.state c.args.port.now) c.args.walk.now c.in-Concat.op (list_ops c.deref_mut-in-Concat.result.now) (list_ops c.in-Concat.right.value) (rw ops at c.requires.may_go))))
+
+pub ListNode::step-step-requires-in-Concat-2 : goal.ListNode::step-step-requires-in-Concat-2
+ListNode::step-step-requires-in-Concat-2 g t c κs within =
+    let ops = concat_ops c.args.self.now c.deref_mut-in-Concat.result.now c.deref_mut-in-Concat-2.result.now c.in-Concat.op c.in-Concat.left c.in-Concat.right c.in-Concat.is c.deref_mut-in-Concat.ensures.value c.deref_mut-in-Concat-2.ensures.value in
+    (search (rules, ListNode.the_lemmas, c.decreases, c.in-Concat.is, c.deref_mut-in-Concat-2.ensures.value), (within.0, (within.1, right_may_go (g.P.Port.state c.args.port.now) (g.P.Port.state c.step-in-Concat.new.port) c.args.walk.now c.step-in-Concat.new.walk c.in-Concat.op (list_ops c.deref_mut-in-Concat.result.now) (list_ops c.step-in-Concat.new.self) (list_ops c.deref_mut-in-Concat-2.result.now) c.in_ok-lefts-in-Concat.lefts c.in_ok-lefts-in-Concat.ensures.taken (rw ops at c.requires.may_go))))
+
+pub ListNode::step-returns-in_err-rights-in-Concat-clause-gone : goal.ListNode::step-returns-in_err-rights-in-Concat-clause-gone
+ListNode::step-returns-in_err-rights-in-Concat-clause-gone g t c =
+    gone_again (g.P.Port.state c.args.port.now) (g.P.Port.state c.step-in-Concat.new.port) (g.P.Port.state c.step-in-Concat-2.new.port) c.args.walk.now c.step-in-Concat.new.walk c.step-in-Concat-2.new.walk c.step-in-Concat.ensures.gone c.step-in-Concat-2.ensures.gone
+
+pub ListNode::step-joined-requires : goal.ListNode::step-joined-requires
+ListNode::step-joined-requires g t c =
+    let ops = concat_ops c.args.self.now c.deref_mut-in-Concat.result.now c.deref_mut-in-Concat-2.result.now c.in-Concat.op c.in-Concat.left c.in-Concat.right c.in-Concat.is c.deref_mut-in-Concat.ensures.value c.deref_mut-in-Concat-2.ensures.value in
+    halves_may_join (g.P.Port.state c.args.port.now) (g.P.Port.state c.step-in-Concat.new.port) c.args.walk.now c.step-in-Concat.new.walk c.in-Concat.op (list_ops c.deref_mut-in-Concat.result.now) (list_ops c.step-in-Concat.new.self) (list_ops c.deref_mut-in-Concat-2.result.now) c.in_ok-lefts-in-Concat.lefts c.in_ok-lefts-in-Concat.ensures.taken (rw ops at c.requires.may_go) (g.P.Port.state c.step-in-Concat-2.new.port) c.step-in-Concat-2.new.walk (list_ops c.step-in-Concat-2.new.self) c.in_ok-rights-in-Concat.rights c.in_ok-rights-in-Concat.ensures.taken
+
+pub ListNode::step-returns-in_ok-rights-in-Concat-clause-gone : goal.ListNode::step-returns-in_ok-rights-in-Concat-clause-gone
+ListNode::step-returns-in_ok-rights-in-Concat-clause-gone g t c =
+    gone_again (g.P.Port.state c.args.port.now) (g.P.Port.state c.step-in-Concat.new.port) (g.P.Port.state c.step-in-Concat-2.new.port) c.args.walk.now c.step-in-Concat.new.walk c.step-in-Concat-2.new.walk c.step-in-Concat.ensures.gone c.step-in-Concat-2.ensures.gone
+
+pub ListNode::step-returns-in_ok-rights-in-Concat-clause-taken : goal.ListNode::step-returns-in_ok-rights-in-Concat-clause-taken
+ListNode::step-returns-in_ok-rights-in-Concat-clause-taken g t c =
+    let ops = concat_ops c.args.self.now c.deref_mut-in-Concat.result.now c.deref_mut-in-Concat-2.result.now c.in-Concat.op c.in-Concat.left c.in-Concat.right c.in-Concat.is c.deref_mut-in-Concat.ensures.value c.deref_mut-in-Concat-2.ensures.value in
+    if_ok_also c.joined.result _ _ _ (λ given is same. rw (ops, ops_of_concat) (halves_gone (g.P.Port.state c.args.port.now) (g.P.Port.state c.step-in-Concat.new.port) c.args.walk.now c.step-in-Concat.new.walk c.in-Concat.op (list_ops c.deref_mut-in-Concat.result.now) (list_ops c.step-in-Concat.new.self) (list_ops c.deref_mut-in-Concat-2.result.now) c.in_ok-lefts-in-Concat.lefts c.in_ok-lefts-in-Concat.ensures.taken (rw ops at c.requires.may_go) (g.P.Port.state c.step-in-Concat-2.new.port) c.step-in-Concat-2.new.walk (list_ops c.step-in-Concat-2.new.self) c.in_ok-rights-in-Concat.rights c.in_ok-rights-in-Concat.ensures.taken c.joined.new.op given same is)) c.joined.ensures.given c.joined.ensures.state
+
+pub ListNode::step-step-requires-in-Flatten : goal.ListNode::step-step-requires-in-Flatten
+ListNode::step-step-requires-in-Flatten g t c κs within =
+    let ops = flatten_ops c.args.self.now c.deref_mut-in-Flatten.result.now c.in-Flatten.bank.value c.in-Flatten.op c.in-Flatten.of c.in-Flatten.bank c.in-Flatten.is c.deref_mut-in-Flatten.ensures.value refl in
+    (search (rules, ListNode.the_lemmas, c.decreases, c.in-Flatten.is, c.deref_mut-in-Flatten.ensures.value), (within.0, (within.1, outer_may_go (g.P.Port.state c.args.port.now) c.args.walk.now c.in-Flatten.op (list_ops c.deref_mut-in-Flatten.result.now) (lists_ops c.in-Flatten.bank.value) (rw ops at c.requires.may_go))))
+
+pub ListNode::step-step-requires-in-Flatten-2 : goal.ListNode::step-step-requires-in-Flatten-2
+ListNode::step-step-requires-in-Flatten-2 g t c κs within =
+    let ops = flatten_ops c.args.self.now c.deref_mut-in-Flatten.result.now c.deref_mut-in-Flatten-2.result.now c.in-Flatten.op c.in-Flatten.of c.in-Flatten.bank c.in-Flatten.is c.deref_mut-in-Flatten.ensures.value c.deref_mut-in-Flatten-2.ensures.value in
+    (search (rules, ListNode.the_lemmas, ListBank.the_lemmas, c.decreases, c.in-Flatten.is, c.deref_mut-in-Flatten-2.ensures.value), (within.0, (within.1, blocks_bank (g.P.Port.state c.args.port.now) (g.P.Port.state c.step-in-Flatten.new.port) c.args.walk.now c.step-in-Flatten.new.walk c.in-Flatten.op (list_ops c.deref_mut-in-Flatten.result.now) (list_ops c.step-in-Flatten.new.self) (lists_ops c.deref_mut-in-Flatten-2.result.now) c.in_ok-diffs-in-Flatten.diffs c.in_ok-diffs-in-Flatten.ensures.taken (rw ops at c.requires.may_go))))
+
+pub ListNode::step-returns-in_err-step-in-Flatten-clause-gone : goal.ListNode::step-returns-in_err-step-in-Flatten-clause-gone
+ListNode::step-returns-in_err-step-in-Flatten-clause-gone g t c =
+    gone_again (g.P.Port.state c.args.port.now) (g.P.Port.state c.step-in-Flatten.new.port) (g.P.Port.state c.step-in-Flatten-2.new.port) c.args.walk.now c.step-in-Flatten.new.walk c.step-in-Flatten-2.new.walk c.step-in-Flatten.ensures.gone c.step-in-Flatten-2.ensures.gone
+
+pub ListNode::step-flattened-requires : goal.ListNode::step-flattened-requires
+ListNode::step-flattened-requires g t c =
+    let ops = flatten_ops c.args.self.now c.deref_mut-in-Flatten.result.now c.deref_mut-in-Flatten-2.result.now c.in-Flatten.op c.in-Flatten.of c.in-Flatten.bank c.in-Flatten.is c.deref_mut-in-Flatten.ensures.value c.deref_mut-in-Flatten-2.ensures.value in
+    rw c.as_slice-in-Flatten.ensures.value (blocks_may_flatten (g.P.Port.state c.args.port.now) (g.P.Port.state c.step-in-Flatten.new.port) c.args.walk.now c.step-in-Flatten.new.walk c.in-Flatten.op (list_ops c.deref_mut-in-Flatten.result.now) (list_ops c.step-in-Flatten.new.self) (lists_ops c.deref_mut-in-Flatten-2.result.now) c.in_ok-diffs-in-Flatten.diffs c.in_ok-diffs-in-Flatten.ensures.taken (rw ops at c.requires.may_go) (g.P.Port.state c.step-in-Flatten-2.new.port) c.step-in-Flatten-2.new.walk (lists_ops c.step-in-Flatten-2.new.self) c.step-in-Flatten-2.new.lists.items (rw c.new-lists.ensures.items at c.in_ok-step-in-Flatten.ensures.taken))
+
+pub ListNode::step-returns-in_ok-step-in-Flatten-clause-gone : goal.ListNode::step-returns-in_ok-step-in-Flatten-clause-gone
+ListNode::step-returns-in_ok-step-in-Flatten-clause-gone g t c =
+    gone_again (g.P.Port.state c.args.port.now) (g.P.Port.state c.step-in-Flatten.new.port) (g.P.Port.state c.step-in-Flatten-2.new.port) c.args.walk.now c.step-in-Flatten.new.walk c.step-in-Flatten-2.new.walk c.step-in-Flatten.ensures.gone c.step-in-Flatten-2.ensures.gone
+
+pub ListNode::step-returns-in_ok-step-in-Flatten-clause-taken : goal.ListNode::step-returns-in_ok-step-in-Flatten-clause-taken
+ListNode::step-returns-in_ok-step-in-Flatten-clause-taken g t c =
+    let ops = flatten_ops c.args.self.now c.deref_mut-in-Flatten.result.now c.deref_mut-in-Flatten-2.result.now c.in-Flatten.op c.in-Flatten.of c.in-Flatten.bank c.in-Flatten.is c.deref_mut-in-Flatten.ensures.value c.deref_mut-in-Flatten-2.ensures.value in
+    if_ok_also c.flattened.result _ _ _ (λ given is same. rw (ops, ops_of_flatten) (blocks_gone (g.P.Port.state c.args.port.now) (g.P.Port.state c.step-in-Flatten.new.port) c.args.walk.now c.step-in-Flatten.new.walk c.in-Flatten.op (list_ops c.deref_mut-in-Flatten.result.now) (list_ops c.step-in-Flatten.new.self) (lists_ops c.deref_mut-in-Flatten-2.result.now) c.in_ok-diffs-in-Flatten.diffs c.in_ok-diffs-in-Flatten.ensures.taken (rw ops at c.requires.may_go) (g.P.Port.state c.step-in-Flatten-2.new.port) c.step-in-Flatten-2.new.walk (lists_ops c.step-in-Flatten-2.new.self) c.step-in-Flatten-2.new.lists.items (rw c.new-lists.ensures.items at c.in_ok-step-in-Flatten.ensures.taken) c.flattened.new.op given same is)) (rw c.as_slice-in-Flatten.ensures.value at c.flattened.ensures.given) (rw c.as_slice-in-Flatten.ensures.value at c.flattened.ensures.state)
 
 pub ListNode::step-step-requires-in-Pick : goal.ListNode::step-step-requires-in-Pick
 ListNode::step-step-requires-in-Pick g t c κs within =
@@ -334,6 +392,30 @@ SignalBank::step_at-returns-else-place-eq0-clause-taken g t c =
     let ops = bank_ops c.args.self.now c.in-Signal.signal.value c.deref_mut-else-place-eq0.result.now c.in-Signal.signal c.in-Signal.others c.in-Signal.is refl c.deref_mut-else-place-eq0.ensures.value in
     let later : c.args.place ≡ suc (c.args.place - 1) = omega (arith, c.if-place-eq0.false) in
     IfOk-weaker c.step_at.result _ _ (λ value taken. rw (ops, ops_of_signals) (other_gone (g.P.Port.state c.args.port.now) (g.P.Port.state c.step_at.new.port) c.args.walk.now c.step_at.new.walk (signal_ops c.in-Signal.signal.value) (signals_ops c.deref_mut-else-place-eq0.result.now) (signals_ops c.step_at.new.self) c.args.place (c.args.place - 1) value later (rw ops at c.requires.may_go) taken)) c.step_at.ensures.taken
+
+pub ListBank::step-step-requires : goal.ListBank::step-step-requires
+ListBank::step-step-requires g t c κs within =
+    let ops = list_bank_ops c.args.self.now c.deref_mut.result.now c.in-List.others.value c.in-List.list c.in-List.others c.in-List.is c.deref_mut.ensures.value refl in
+    (search (rules, ListNode.the_lemmas, ListBank.the_lemmas, c.decreases, c.in-List.is, c.deref_mut.ensures.value), (within.0, (within.1, first_list_may_go (g.P.Port.state c.args.port.now) c.args.walk.now (list_ops c.deref_mut.result.now) (lists_ops c.in-List.others.value) (rw ops at c.requires.may_go))))
+
+pub ListBank::step-step-requires-in-List : goal.ListBank::step-step-requires-in-List
+ListBank::step-step-requires-in-List g t c κs within =
+    let ops = list_bank_ops c.args.self.now c.deref_mut.result.now c.deref_mut-in-List.result.now c.in-List.list c.in-List.others c.in-List.is c.deref_mut.ensures.value c.deref_mut-in-List.ensures.value in
+    (search (rules, ListNode.the_lemmas, ListBank.the_lemmas, c.decreases, c.in-List.is, c.deref_mut-in-List.ensures.value), (within.0, (within.1, rest_lists_may_go (g.P.Port.state c.args.port.now) (g.P.Port.state c.step.new.port) c.args.walk.now c.step.new.walk (list_ops c.deref_mut.result.now) (list_ops c.step.new.self) (lists_ops c.deref_mut-in-List.result.now) c.in_ok-diffs-in-List.diffs c.in_ok-diffs-in-List.ensures.taken (rw ops at c.requires.may_go))))
+
+pub ListBank::step-returns-in-Empty-clause-taken : goal.ListBank::step-returns-in-Empty-clause-taken
+ListBank::step-returns-in-Empty-clause-taken g t c =
+    let empty : lists_ops c.args.self.now ≡ no_list = rw c.in-Empty.is (search (rules, ListBank.the_lemmas)) in
+    rw empty (no_lists_gone (g.P.Port.state c.args.port.now) c.args.walk.now c.args.lists.now.items (still_gone (g.P.Port.state c.args.port.now) c.args.walk.now c.requires.may_go.can))
+
+pub ListBank::step-returns-in_ok-push-in-List-clause-gone : goal.ListBank::step-returns-in_ok-push-in-List-clause-gone
+ListBank::step-returns-in_ok-push-in-List-clause-gone g t c =
+    gone_again (g.P.Port.state c.args.port.now) (g.P.Port.state c.step.new.port) (g.P.Port.state c.step-in-List.new.port) c.args.walk.now c.step.new.walk c.step-in-List.new.walk c.step.ensures.gone c.step-in-List.ensures.gone
+
+pub ListBank::step-returns-in_ok-push-in-List-clause-taken : goal.ListBank::step-returns-in_ok-push-in-List-clause-taken
+ListBank::step-returns-in_ok-push-in-List-clause-taken g t c =
+    let ops = list_bank_ops c.args.self.now c.deref_mut.result.now c.deref_mut-in-List.result.now c.in-List.list c.in-List.others c.in-List.is c.deref_mut.ensures.value c.deref_mut-in-List.ensures.value in
+    on_ok_weaker c.step-in-List.result (λ taken. rw (ops, ops_of_lists) (all_lists_gone (g.P.Port.state c.args.port.now) (g.P.Port.state c.step.new.port) c.args.walk.now c.step.new.walk (list_ops c.deref_mut.result.now) (list_ops c.step.new.self) (lists_ops c.deref_mut-in-List.result.now) c.in_ok-diffs-in-List.diffs c.in_ok-diffs-in-List.ensures.taken (rw ops at c.requires.may_go) (g.P.Port.state c.step-in-List.new.port) c.step-in-List.new.walk (lists_ops c.step-in-List.new.self) c.args.lists.now.items c.push.new.self.items c.step-in-List.new.lists.items c.in_ok-push-in-List.ensures.items taken)) c.step-in-List.ensures.taken
 
 pub ListBank::step_at-step-requires : goal.ListBank::step_at-step-requires
 ListBank::step_at-step-requires g t c κs within =

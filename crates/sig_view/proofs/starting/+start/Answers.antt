@@ -1,10 +1,46 @@
-use Rattle.std.proofs.Common.{◌≡◌, ℕ, arith, length-append, of_z, rules, to_z, w64}
+use Rattle.std.proofs.Common.{◌≡◌, ℕ, ◌+◌, length, map, arith, length-append, of_z, rules, to_z, w64}
 use Rattle.std.proofs.lemmas.Grind.{common_steps}
 use Rattle.std.proofs.lemmas.List.{drop_all, drop_more}
+use Rattle.sig_expr.specs.Leaves.{sig_leaves, vec_leaves, vecs_leaves}
+use Rattle.sig_expr.specs.Shapes.{sig_tree, vec_tree, vec_trees}
 use Rattle.sig_view.proofs.BankStarts.{all_lists, all_signals, one_more_list, one_more_signal}
 use Rattle.sig_expr.specs.Shapes.{map_tree}
 use Rattle.sig_view.proofs.MapStarts.{key_is, keys_is, leaf_within, started_few, values_is}
+use Rattle.sig_view.proofs.StartsShort.{concat_tree, first_fits, flatten_tree, flattened_short, joined_short, pick_tree}
+use Rattle.sig_view.specs.Fetching.{content_in}
 use Rattle.sig_view.proofs.starting.+start.Goals as goal
+
+pub list_node-list_joined-requires : goal.list_node-list_joined-requires
+list_node-list_joined-requires t c =
+    let tree = concat_tree c.in-Concat.left c.in-Concat.right in
+    let right = rw (c.list_leaves-in-Concat.ensures, c.get-in-Concat.ensures, c.get-in-Concat-3.ensures) at c.in_ok-right-in-Concat.ensures.started.items_are in
+    record { short = joined_short (content_in c.args.contents.now) (vec_tree c.in-Concat.left) (vec_tree c.in-Concat.right) c.args.leaf (c.args.leaf + length (vec_leaves (vec_tree c.in-Concat.left))) _ _ (rw (c.in-Concat.is, tree) at c.requires.built) (rw (c.in-Concat.is, tree) at c.requires.short) (rw c.get-in-Concat-2.ensures at c.in_ok-left-in-Concat.ensures.started.items_are) right }
+
+pub list_node-list_leaves-requires-in-Flatten : goal.list_node-list_leaves-requires-in-Flatten
+list_node-list_leaves-requires-in-Flatten t c =
+    let room = first_fits (vec_leaves (vec_tree c.in-Flatten.of)) (vecs_leaves (vec_trees (map vec_tree c.in-Flatten.bank))) c.args.leaf _ (rw (c.in-Flatten.is, flatten_tree c.in-Flatten.of c.in-Flatten.bank) at c.requires.room) in
+    rw c.get-in-Flatten.ensures (search (rules, room))
+
+pub list_node-overflow_add-behind-in-Flatten : goal.list_node-overflow_add-behind-in-Flatten
+list_node-overflow_add-behind-in-Flatten t c =
+    let room = first_fits (vec_leaves (vec_tree c.in-Flatten.of)) (vecs_leaves (vec_trees (map vec_tree c.in-Flatten.bank))) c.args.leaf _ (rw (c.in-Flatten.is, flatten_tree c.in-Flatten.of c.in-Flatten.bank) at c.requires.room) in
+    rw (c.list_leaves-in-Flatten.ensures, c.get-in-Flatten.ensures) (search (rules, room))
+
+pub list_node-list_flattened-requires : goal.list_node-list_flattened-requires
+list_node-list_flattened-requires t c =
+    let tree = flatten_tree c.in-Flatten.of c.in-Flatten.bank in
+    let bank = rw (c.list_leaves-in-Flatten.ensures, c.get-in-Flatten.ensures, c.as_slice-in-Flatten.ensures) at c.in_ok-bank-in-Flatten.ensures.started.lists_are in
+    record { short = flattened_short (content_in c.args.contents.now) (vec_tree c.in-Flatten.of) (vec_trees (map vec_tree c.in-Flatten.bank)) c.args.leaf (c.args.leaf + length (vec_leaves (vec_tree c.in-Flatten.of))) _ _ (rw (c.in-Flatten.is, tree) at c.requires.built) (rw (c.in-Flatten.is, tree) at c.requires.short) (rw c.get-in-Flatten-2.ensures at c.in_ok-of-in-Flatten.ensures.started.items_are) bank }
+
+pub list_node-signal_leaves-requires : goal.list_node-signal_leaves-requires
+list_node-signal_leaves-requires t c =
+    let room = first_fits (sig_leaves (sig_tree c.in-Pick.of)) (vecs_leaves (vec_trees (map vec_tree c.in-Pick.bank))) c.args.leaf _ (rw (c.in-Pick.is, pick_tree c.in-Pick.of c.in-Pick.bank) at c.requires.room) in
+    rw c.get-in-Pick.ensures (search (rules, room))
+
+pub list_node-overflow_add-behind-in-Pick : goal.list_node-overflow_add-behind-in-Pick
+list_node-overflow_add-behind-in-Pick t c =
+    let room = first_fits (sig_leaves (sig_tree c.in-Pick.of)) (vecs_leaves (vec_trees (map vec_tree c.in-Pick.bank))) c.args.leaf _ (rw (c.in-Pick.is, pick_tree c.in-Pick.of c.in-Pick.bank) at c.requires.room) in
+    rw (c.signal_leaves.ensures, c.get-in-Pick.ensures) (search (rules, room))
 
 pub list_node-map_node-requires : goal.list_node-map_node-requires
 list_node-map_node-requires t c =
