@@ -169,7 +169,6 @@ fn list_node(
             let (of, entries) = map_node(alloc, of.get(), contents, leaf)?;
             list_values(alloc, of, entries)
         }
-        _ => unreachable!(),
     }
 }
 
@@ -307,7 +306,6 @@ pub fn view_node(
             let (node, items) = list_node(alloc, of, contents, 0)?;
             view_enumerated(alloc, node, items)
         }
-        _ => unreachable!(),
     }
 }
 
