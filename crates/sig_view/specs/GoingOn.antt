@@ -1,6 +1,7 @@
 -- A walk over all leaves after the first row, as a part of a poll.
 use Rattle.std.specs.Prelude.{◌≡◌, ℕ, ◌<◌, ◌+◌, slice_index, true, false, None, Some}
 use Rattle.sig_expr.specs.Awaited.{awaits}
+use Rattle.sig_expr.specs.Trees.{map_source}
 use Rattle.sig_hist.specs.Ports.{PortState}
 use Rattle.sig_view.specs.Flow.{flow}
 use Rattle.sig_view.specs.Nodes.{ViewOps, map, view_ops}
@@ -19,7 +20,7 @@ use Rattle.sig_view.specs.declared.task.ViewTask.{ViewTask}
 -- the operators of a stage after the first row
 abbrev pub ops_of : Stage → ViewOps
 ops_of (Following node) = view_ops node
-ops_of stage = map 0
+ops_of stage = map (map_source 0)
 
 abbrev pub failed_now : ViewTask → ViewTask
 failed_now task = record task { stage = Failed true }
