@@ -1,5 +1,5 @@
 -- What a list gives on the way that a walk took its leaf leads from what it was to what it is.
-use Rattle.std.proofs.Common.{◌≡◌, ℕ, ◌≤◌, ℤ, List, length, refl, ap}
+use Rattle.std.proofs.Common.{◌≡◌, ℕ, ℤ, List, length, refl, ap}
 use Rattle.sig_diff.specs.declared.differences.VecDiff.{VecDiff}
 use Rattle.sig_expr.specs.Scratch.{list_of}
 use Rattle.sig_diff.specs.Replaying.{AreLawful, replayed}
