@@ -3,17 +3,15 @@ use Rattle.std.proofs.Common.{◌≡◌, ◌≢◌, ◌∙◌, ℕ, zero, suc, �
 use Rattle.std.proofs.lemmas.Bool.Decides.{nat_tests}
 use Rattle.std.proofs.lemmas.Option.{slice_get-get_or}
 use Rattle.std.proofs.Math.ListN.{get_or-eq_default}
-use Rattle.sig_diff.specs.Contents.{kind_of, list_in}
+use Rattle.sig_diff.specs.Contents.{entries_in, list_in}
 use Rattle.sig_diff.specs.declared.contents.Content.{Content}
 use Rattle.sig_diff.specs.declared.contents.Content.TheVariants.{Cell, Vector, Map}
-use Rattle.sig_diff.specs.declared.contents.Kind.{Kind}
-use Rattle.sig_hist.proofs.Entries.{within_cap}
-use Rattle.sig_hist.proofs.Telling.{kind_edited, kind_state}
-use Rattle.sig_hist.specs.Changes.{IsInOrder, edited, size_of}
+use Rattle.sig_hist.specs.Changes.{size_of}
 use Rattle.sig_hist.specs.Histories.{state}
 use Rattle.sig_hist.specs.OneThread.{no_source}
 use Rattle.sig_hist.specs.Ports.{IsSoundPort, PortState}
-use Rattle.sig_hist.specs.declared.edits.Entry.{Entry}
+use Rattle.sig_hist.specs.declared.plans.SourcePlan.{SourcePlan}
+use Rattle.sig_view.proofs.MapShortening.{state_within}
 use Rattle.sig_view.proofs.Staying.{source_of_leaf}
 use Rattle.sig_view.specs.Fetching.{AreFetched, content_in, is_missing, is_nothing}
 use Rattle.sig_ops.specs.EnumerateTurns.{enumeration_stands}
@@ -26,40 +24,24 @@ use Rattle.sig_view.specs.Starting.{IsListStarted, IsViewStarted}
 use Rattle.sig_view.specs.declared.rows.Body.{Body}
 use Rattle.sig_view.specs.Flow.{state_at}
 use Rattle.sig_view.specs.SoundRows.{contents_at, leaf_source}
+use Rattle.sig_view.specs.Starting.{leaf_length}
 use Rattle.sig_view.specs.Walking.{seen_source, seen_sources}
 
--- ---- no list is too long
+-- ---- no list or map is too long
 
--- a source's list is never longer than its cap
-list_in_order : (content : Content) → kind_of content ≡ Kind.Vector → IsInOrder content
-list_in_order (Cell x) is = tt
-list_in_order (Vector items) is = tt
-list_in_order (Map entries) is = absurd cc
+content_length : (content : Content) → length (list_in content) + length (entries_in content) ≤ size_of content
+content_length (Cell x) = omega arith
+content_length (Vector items) = omega arith
+content_length (Map entries) = omega arith
 
-list_size : (content : Content) → length (list_in content) ≤ size_of content
-list_size (Cell x) = omega arith
-list_size (Vector items) = omega arith
-list_size (Map entries) = omega arith
-
-size_within : (content : Content) (cap : ℕ) (entries : List Entry) → kind_of content ≡ Kind.Vector → size_of content ≤ cap → size_of (state content cap entries) ≤ cap
-size_within content cap [] is within = within
-size_within content cap (entry ∷ entries) is within =
-    size_within (edited content cap entry.edit) cap entries (kind_edited content cap entry.edit ∙ is) (within_cap content cap entry.edit (list_in_order content is) within)
-
-no_list : (content : Content) (kind : Kind) → kind_of content ≡ kind → kind ≢ Kind.Vector → list_in content ≡ []
-no_list (Vector items) kind is other = absurd (other (sym is))
-no_list content kind is other = refl
-
-pub list_within_cap : (content : Content) (cap : ℕ) (entries : List Entry) → size_of content ≤ cap → length (list_in (state content cap entries)) ≤ cap
-list_within_cap (Cell x) cap entries within = rw (no_list _ Kind.Cell (kind_state (Cell x) cap entries) (λ same. cc)) zero-le
-list_within_cap (Vector items) cap entries within = le_trans (list_size (state (Vector items) cap entries)) (size_within (Vector items) cap entries refl within)
-list_within_cap (Map pairs) cap entries within = rw (no_list _ Kind.Map (kind_state (Map pairs) cap entries) (λ same. cc)) zero-le
-
-pub leaf_within : (s : PortState) (first count leaf : ℕ) (positions : List ℕ) → IsSoundPort s → leaf < count → length (list_in (contents_at (seen_sources s first count) positions leaf)) ≤ (s.plan (s.source (first + leaf))).cap
+-- a source's list or map is never longer than its cap
+pub leaf_within : (s : PortState) (first count leaf : ℕ) (positions : List ℕ) → IsSoundPort s → leaf < count → leaf_length (contents_at (seen_sources s first count) positions) leaf ≤ (s.plan (s.source (first + leaf))).cap
 leaf_within s first count leaf positions sound below =
     let number : ℕ = s.source (first + leaf) in
+    let plan : SourcePlan = s.plan number in
+    let is = (sound number).of_plan in
     let same : contents_at (seen_sources s first count) positions leaf ≡ state_at (seen_source s (first + leaf)) (slice_index positions leaf) = ap (λ source. state_at source (slice_index positions leaf)) (source_of_leaf s first count leaf below) in
-    rw same (list_within_cap (s.plan number).start (s.plan number).cap (take (slice_index positions leaf) (s.seen number)) (sound number).of_plan.within_cap)
+    rw same (le_trans (content_length _) (state_within plan.start plan.cap (take (slice_index positions leaf) (s.seen number)) is.in_order is.within_cap))
 
 -- ---- all contents
 

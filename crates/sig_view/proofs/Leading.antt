@@ -9,7 +9,6 @@ use Rattle.sig_diff.specs.Contents.{entries_in, kind_of, number_in}
 use Rattle.sig_diff.specs.Entries.{IsRising, has_key}
 use Rattle.sig_diff.specs.MapDifferences.{MapIsLawful, map_applied}
 use Rattle.sig_diff.specs.Numbers.{clamped, total}
-use Rattle.sig_diff.specs.Replaying.{MapAreLawful, map_replayed}
 use Rattle.sig_diff.specs.declared.differences.VecDiff.{VecDiff}
 use Rattle.sig_diff.specs.declared.contents.Content.{Content}
 use Rattle.sig_diff.specs.declared.contents.Content.TheVariants.{Cell, Vector, Map}

@@ -1,7 +1,6 @@
 -- A step of a map's lists, and of the value at one of its keys: what it needs, and what is left.
 use Rattle.std.proofs.Common.{◌≡◌, ◌∙◌, ℕ, ◌≤◌, ℤ, List, length, slice_index, Option, refl, ap}
-use Rattle.std.specs.Option.{unwrap_or}
-use Rattle.sig_diff.specs.Entries.{IsRising, value_at}
+use Rattle.sig_diff.specs.Entries.{value_at}
 use Rattle.sig_diff.specs.Replaying.{MapAreLawful, MapStaysShort, map_replayed}
 use Rattle.sig_diff.specs.declared.differences.VecDiff.{VecDiff}
 use Rattle.sig_diff.specs.declared.map_differences.MapDiff.{MapDiff}
@@ -10,7 +9,7 @@ use Rattle.sig_expr.specs.Scratch.{entries_of}
 use Rattle.sig_expr.specs.Trees.{MapTree}
 use Rattle.sig_hist.specs.Ports.{PortState}
 use Rattle.sig_maps.specs.Keys.{KeyView, key_shows}
-use Rattle.sig_maps.specs.Tables.{entries_gives, keys_gives, values_gives}
+use Rattle.sig_maps.specs.Tables.{keys_gives, values_gives}
 use Rattle.sig_ops.specs.Signals.{given}
 use Rattle.sig_view.proofs.ByMap.{MapGoesShort, MapLeads}
 use Rattle.sig_view.proofs.Carrying.{held_before, never_back}

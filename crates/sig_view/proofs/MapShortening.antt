@@ -1,5 +1,5 @@
 -- No map on the way of a view is longer than the caps of its sources allow.
-use Rattle.std.proofs.Common.{◌≡◌, ℕ, zero, suc, ◌+◌, ◌≤◌, ℤ, List, [], ◌∷◌, ◌++◌, length, take, filter_map, get_or, cond, Bool, true, false, Option, None, Some, arith, le_trans}
+use Rattle.std.proofs.Common.{ℕ, zero, suc, ◌+◌, ◌≤◌, ℤ, List, [], ◌∷◌, ◌++◌, length, take, filter_map, get_or, cond, Bool, true, false, Option, None, Some, arith, le_trans}
 use Rattle.std.specs.Option.{option_map_or, option_to_list}
 use Rattle.sig_diff.specs.Contents.{entries_in}
 use Rattle.sig_diff.specs.Entries.{IsRising}

@@ -17,6 +17,9 @@ use Rattle.sig_view.specs.Starting.{IsMapStarted, leaf_length}
 pub leaf_within : (m : MapTree ℕ) (leaf count : ℕ) → leaf + length (map_leaves m) ≤ count → leaf < count
 leaf_within m leaf count room = omega (arith, room, length_map_leaves m)
 
+pub has_leaf : (m : MapTree ℕ) (count : ℕ) → length (map_leaves m) ≤ count → 0 < count
+has_leaf m count room = omega (arith, room, length_map_leaves m)
+
 pub started_few : (s : ℕ → Content) (tree m : MapTree ℕ) (entries : List (ℤ × ℤ)) → IsMapStarted s tree m entries → map_bound (leaf_length s) tree ≤ 65536 → length entries ≤ 65536
 started_few s tree m entries started few = rw started.entries_are (le_trans (map_within s (leaf_length s) (λ leaf. omega arith) tree) few)
 

@@ -88,12 +88,7 @@ pub fn signal_switched(
 }
 
 /// The value at a key of a map.
-pub fn signal_key(
-    key: i64,
-    default: i64,
-    of: MapNode,
-    entries: &Entries<i64>,
-) -> (SignalNode, i64)
+pub fn signal_key(key: i64, default: i64, of: MapNode, entries: &Entries<i64>) -> (SignalNode, i64)
     ensures ops { signal_ops result.0 ≡ value_at_key (record { key = key; default = default; value = value_at key entries.now }) (map_ops of) }
     ensures value { result.1 ≡ unwrap_or (value_at key entries.now) default }
 {

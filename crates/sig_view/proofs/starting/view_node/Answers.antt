@@ -2,17 +2,17 @@ use Rattle.sig_expr.specs.Leaves.{number_vec}
 use Rattle.sig_expr.specs.Shapes.{map_tree}
 use Rattle.sig_expr.specs.Shapes.{vec_tree}
 use Rattle.sig_view.proofs.FirstRows.{enumerated}
-use Rattle.sig_view.proofs.MapStarts.{leaf_within}
+use Rattle.sig_view.proofs.MapStarts.{has_leaf}
 use Rattle.sig_view.proofs.Results.{if_ok_both}
 use Rattle.sig_view.specs.Fetching.{content_in}
 use Rattle.sig_view.specs.Nodes.{list_ops, view_ops}
 use Rattle.sig_view.proofs.starting.view_node.Goals as goal
 
 pub map_node-requires : goal.map_node-requires
-map_node-requires c = record { room = leaf_within (map_tree c.in-Map.of) 0 _ (rw c.in-Map.is at c.requires.room) }
+map_node-requires c = record { room = has_leaf (map_tree c.in-Map.of) _ (rw c.in-Map.is at c.requires.room) }
 
 pub map_node-requires-in-Entries : goal.map_node-requires-in-Entries
-map_node-requires-in-Entries c = record { room = leaf_within (map_tree c.in-Entries.of) 0 _ (rw c.in-Entries.is at c.requires.room) }
+map_node-requires-in-Entries c = record { room = has_leaf (map_tree c.in-Entries.of) _ (rw c.in-Entries.is at c.requires.room) }
 
 pub returns-in_ok-node-in-Enumerate : goal.returns-in_ok-node-in-Enumerate
 returns-in_ok-node-in-Enumerate c =
