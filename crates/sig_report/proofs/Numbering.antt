@@ -8,7 +8,7 @@ use Rattle.sig_diff.specs.Numbers.{class_of}
 use Rattle.sig_diff.specs.declared.contents.Content.{Content}
 use Rattle.sig_expr.proofs.Awaiting.{IsAmong, none, kept, left_out, agree_among, length_each_sig, length_each_vec, sig_among, sig_same, vec_among}
 use Rattle.sig_expr.specs.Awaited.{Agree, all_of, awaits, each_sig_awaits, each_vec_awaits, sig_awaits, vec_awaits}
-use Rattle.sig_expr.specs.Leaves.{leaves, sig_leaves, vec_leaves, number_sig, number_vec, number_sigs, number_vecs, numbered}
+use Rattle.sig_expr.specs.Leaves.{sig_leaves, vec_leaves, number_sig, number_vec, number_sigs, number_vecs, numbered}
 use Rattle.sig_expr.specs.Scratch.{value_of}
 use Rattle.sig_expr.specs.Trees.{SigTree, cell, mapped_signal, deduped, switched, length_of, total_of, at_key, VecTree, vector, mapped, filtered, filtered_by, mapped_by, sorted, joined, flattened, picked, keys_in, values_in, SigTrees, no_signals, more_signals, VecTrees, no_lists, more_lists, ViewTree, signal_view, vector_view, map_view, entries_view, tagged_view}
 use Rattle.sig_hist.specs.Sources.{is_among}
