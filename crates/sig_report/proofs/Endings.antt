@@ -8,7 +8,7 @@ use Rattle.sig_hist.specs.Sources.{Source}
 use Rattle.sig_report.proofs.Events.{GoesOn, IsPlay, writer_goes}
 use Rattle.sig_report.proofs.Growing.{Grows, grows_not}
 use Rattle.sig_report.proofs.Schedules.{AllSeen, GrowsTo, goes_further, goes_not, polled_at, seen_polled}
-use Rattle.sig_report.proofs.Views.{AllClosed, built_at, no_shares, view_ends}
+use Rattle.sig_report.proofs.Views.{AllClosed, no_shares, view_ends}
 use Rattle.sig_report.specs.Lawful.{all_views, no_writer, sources_of}
 use Rattle.sig_script.specs.Leaving.{has_no_leaves}
 use Rattle.sig_report.specs.Playing.{Played, Watched, by_view, by_writer, in_turn, polled, times, view_at, watched_at}
@@ -102,12 +102,11 @@ module _ (script : Script) (all_built : unbuilt script ≡ None) (final : List S
 
   twice_ended : (number : ℕ) (p : Played) → number < length (all_views script) → IsLast p → are_complete (watched_at (times 2 (by_view script number) p) number).rows ≡ true
   twice_ended number p within is =
-      let built = built_at script all_built number _ within in
       let once : Played = by_view script number p in
       let again = get_or-set_same once.views number (polled (numbered (view_tree (view_at script number))) (sources_of p.sources (view_at script number)) (watched_at once number)) (record { at = []; rows = [] })
       (rw (last_polled number p is).seen.views within) in
       ap (λ (watched : Watched). are_complete watched.rows) again
-      ∙ view_ends (view_at script number) built p.sources final (watched_at once number) (last_grows p is.sources) is.seen.in_order (rw is.sources closed) (polled_at script all_built final number p within is.seen (last_grows p is.sources))
+      ∙ view_ends (view_at script number) p.sources final (watched_at once number) (last_grows p is.sources) is.seen.in_order (rw is.sources closed) (polled_at script all_built final number p within is.seen (last_grows p is.sources))
 
   elsewhere : (number other : ℕ) (p : Played) → other < number → watched_at (times 2 (by_view script number) p) other ≡ watched_at p other
   elsewhere number other p below =

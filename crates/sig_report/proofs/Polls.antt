@@ -25,7 +25,6 @@ use Rattle.sig_ops.specs.EnumerateTurns.{enumeration_stands}
 use Rattle.sig_ops.specs.Enumerating.{Enumeration, tagged_from}
 use Rattle.sig_view.proofs.Leading.{BodyLeads, view_leads}
 use Rattle.sig_view.proofs.Tags.{as_many_tags}
-use Rattle.sig_view.specs.Built.{IsBuilt}
 use Rattle.sig_view.specs.Flow.{GoesAhead, Way, first_body, flow, with_tags}
 use Rattle.sig_view.specs.SoundRows.{AreSound, AreWithin, IsNextRow, IsShownBy, IsSoundRow, Seen, are_complete, contents_at, has_tags, is_awaited, leaf_source, nothing_seen, seen_after, seen_of, shown_after, tags_of, ways}
 use Rattle.sig_view.specs.declared.rows.Body.{Body}
@@ -35,19 +34,19 @@ use Rattle.sig_view.specs.declared.rows.Row.{Row}
 
 -- ---- what is shown
 
-first_is_open_body : (view : ViewTree ℕ) → IsBuilt view → (s : ℕ → Content) → IsOpenBody (first_body view s)
-first_is_open_body (signal_view e) is s = tt
-first_is_open_body (vector_view e) is s = tt
-first_is_open_body (map_view m) is s = tt
-first_is_open_body (entries_view m) is s = absurd is
-first_is_open_body (tagged_view e) is s = tt
+first_is_open_body : (view : ViewTree ℕ) (s : ℕ → Content) → IsOpenBody (first_body view s)
+first_is_open_body (signal_view e) s = tt
+first_is_open_body (vector_view e) s = tt
+first_is_open_body (map_view m) s = tt
+first_is_open_body (entries_view m) s = tt
+first_is_open_body (tagged_view e) s = tt
 
-pub first_shown : (view : ViewTree ℕ) → IsBuilt view → (s : ℕ → Content) → IsShownBy view s (seen_after (nothing_seen view) (first_body view s))
-first_shown (signal_view e) is s = record { kind = refl; shows = refl; tags = tt }
-first_shown (vector_view e) is s = record { kind = refl; shows = refl; tags = tt }
-first_shown (map_view m) is s = record { kind = refl; shows = refl; tags = tt }
-first_shown (entries_view m) is s = absurd is
-first_shown (tagged_view e) is s =
+pub first_shown : (view : ViewTree ℕ) (s : ℕ → Content) → IsShownBy view s (seen_after (nothing_seen view) (first_body view s))
+first_shown (signal_view e) s = record { kind = refl; shows = refl; tags = tt }
+first_shown (vector_view e) s = record { kind = refl; shows = refl; tags = tt }
+first_shown (map_view m) s = record { kind = refl; shows = refl; tags = tt }
+first_shown (entries_view m) s = record { kind = refl; shows = refl; tags = tt }
+first_shown (tagged_view e) s =
     let stands = enumeration_stands (list_of s e) in
     let count : 0 + (length (tagged_from 0 (list_of s e)) + 0) ≡ length (list_of s e) = omega (arith, as_many_tags 0 (list_of s e)) in
     record { kind = refl; shows = ap shown.Vector stands.values; tags = rw count (record { values = refl; distinct = stands.distinct; given_out = stands.given_out }) }
@@ -135,7 +134,7 @@ module _ (view : ViewTree ℕ) where
 
   -- ---- one poll
 
-  module _ (built : IsBuilt view) (looks : LooksBelow view) (sources final : List Source) (grow : AllGrow sources final) (in_order : (leaf : ℕ) → IsInOrder (leaf_source final leaf).plan.start) where
+  module _ (looks : LooksBelow view) (sources final : List Source) (grow : AllGrow sources final) (in_order : (leaf : ℕ) → IsInOrder (leaf_source final leaf).plan.start) where
     same_contents : (at : List ℕ) → AreInside sources at → contents_at sources at ≡ contents_at final at
     same_contents at inside = λ i leaf. same_state _ _ (slice_index at leaf) (grow.each leaf) (inside.each leaf) i
 
@@ -151,9 +150,9 @@ module _ (view : ViewTree ℕ) where
         let at_ends : (leaf : ℕ) → slice_index ends leaf ≡ length (leaf_source sources leaf).history = λ leaf. map_at (λ (source : Source). length source.history) sources leaf no_source in
         let inside : AreInside sources ends = record { count = length-map sources _; each = λ leaf. omega (arith, at_ends leaf) } in
         let row : Row = record { at = ends; body = first_body view (contents_at final ends) } in
-        let open_ : IsOpen view final ends (seen_after (nothing_seen view) row.body) (row ∷ []) = first_is_open view final row (first_is_open_body view built _) (record { within = still_within ends inside; whole = refl }) in
+        let open_ : IsOpen view final ends (seen_after (nothing_seen view) row.body) (row ∷ []) = first_is_open view final row (first_is_open_body view _) (record { within = still_within ends inside; whole = refl }) in
         subst (λ (s : ℕ → Content). IsPolledNow (record { at = ends; rows = record { at = ends; body = first_body view s } ∷ [] })) (sym (same_contents ends inside))
-        (caught_up ends row [] inside (stays_at_ends view sources ends at_ends) (record { seen = seen_after (nothing_seen view) row.body; is_open = open_; shown = first_shown view built _ }))
+        (caught_up ends row [] inside (stays_at_ends view sources ends at_ends) (record { seen = seen_after (nothing_seen view) row.body; is_open = open_; shown = first_shown view _ }))
 
     module _ (from at : List ℕ) (inside : AreInside sources from) (has : HasAdvanced view sources from at) where
       abbrev here : AreInside sources at
@@ -170,7 +169,7 @@ module _ (view : ViewTree ℕ) where
         goes leaf = record { ahead = none_falls view sources from at inside has leaf; in_order = in_order leaf }
 
         leads : BodyLeads (ways final from at) goes view seen.shown seen.next
-        leads = view_leads (ways final from at) goes view seen.shown seen.next built (record { kind = shows_it.kind; shows = shows_it.shows; tags = shows_it.tags })
+        leads = view_leads (ways final from at) goes view seen.shown seen.next (record { kind = shows_it.kind; shows = shows_it.shows; tags = shows_it.tags })
 
         next_row : pointwise nat_eq from at ≡ false → IsNextRow view final from seen at given
         next_row moves = record {

@@ -5,7 +5,7 @@ use Rattle.std.proofs.lemmas.List.{get_or-set_same, get_or-set_other, length-set
 use Rattle.sig_hist.specs.Sources.{Source}
 use Rattle.sig_report.proofs.Events.{GoesOn, IsPlay, share_goes, source_at, writer_goes}
 use Rattle.sig_report.proofs.Growing.{grows_not, grows_on}
-use Rattle.sig_report.proofs.Views.{AllInOrder, GrowOn, PolledView, SeesView, built_at, no_shares, view_more, view_polled, view_sees}
+use Rattle.sig_report.proofs.Views.{AllInOrder, GrowOn, PolledView, SeesView, no_shares, view_more, view_polled, view_sees}
 use Rattle.sig_report.specs.Lawful.{all_views}
 use Rattle.sig_script.specs.Leaving.{has_no_leaves}
 use Rattle.sig_report.specs.Playing.{Played, Watched, by_share, by_view, by_writer, scheduled, taken, view_at, watched_at}
@@ -60,7 +60,7 @@ module _ (script : Script) (all_built : unbuilt script ≡ None) where
         PolledView (view_at script number) p.sources final (watched_at (by_view script number p) number)
     polled_at number p within seen grows =
         let now = get_or-set_same p.views number _ (record { at = []; rows = [] }) (rw seen.views within) in
-        subst (λ (watched : Watched). PolledView (view_at script number) p.sources final watched) (sym now) (view_polled (view_at script number) (built_at script all_built number _ within) p.sources final (watched_at p number) grows seen.in_order (seen.sees number within))
+        subst (λ (watched : Watched). PolledView (view_at script number) p.sources final watched) (sym now) (view_polled (view_at script number) p.sources final (watched_at p number) grows seen.in_order (seen.sees number within))
 
     seen_by : (number other : ℕ) (p : Played) (within : other < length (all_views script)) (same : Bool) → (number == other) ≡ same → AllSeen p → GrowsTo final p →
         SeesView (view_at script other) p.sources final (watched_at (by_view script number p) other)

@@ -23,9 +23,8 @@ use Rattle.sig_report.proofs.RowSteps.{complete_append, replay_of_append, seen_o
 use Rattle.sig_report.specs.Playing.{Watched, advanced, is_at_end, polled, polled_later, with_row}
 use Rattle.sig_run.specs.Watching.{IsFollowing, IsShowable, IsShowing, seen_by, sources_under, tree_of, watched_of}
 use Rattle.sig_run.specs.declared.watching.WatchedView.{WatchedView}
-use Rattle.sig_view.proofs.Numbering.{leaf_within, numbered_built}
+use Rattle.sig_view.proofs.Numbering.{leaf_within}
 use Rattle.sig_view.proofs.Staying.{source_of_leaf}
-use Rattle.sig_view.specs.Built.{IsBuilt}
 use Rattle.sig_view.specs.Flow.{first_body, flow, with_tags}
 use Rattle.sig_view.specs.Polling.{HasStayed, IsEnd, IsPoll, IsRow, IsSameTask}
 use Rattle.sig_view.specs.SoundRows.{AreWithin, IsLawfulBody, IsShownBy, Seen, are_complete, contents_at, is_awaited, is_end, leaf_source, nothing_seen, nothing_shown, replay_of, seen_after, seen_of, shown_after, tags_of, ways}
@@ -42,19 +41,19 @@ use Rattle.sig_view.specs.declared.task.ViewTask.{ViewTask}
 -- ---- what is shown
 
 -- a first row can be shown
-first_is_lawful : (view : ViewTree ℕ) → IsBuilt view → (s : ℕ → Content) → IsShowable (nothing_shown view) (first_body view s)
-first_is_lawful (signal_view e) is s = tt
-first_is_lawful (vector_view e) is s = (refl, tt)
-first_is_lawful (map_view m) is s = search rules
-first_is_lawful (entries_view m) is s = absurd is
-first_is_lawful (tagged_view e) is s = (refl, tt)
+first_is_lawful : (view : ViewTree ℕ) (s : ℕ → Content) → IsShowable (nothing_shown view) (first_body view s)
+first_is_lawful (signal_view e) s = tt
+first_is_lawful (vector_view e) s = (refl, tt)
+first_is_lawful (map_view m) s = search rules
+first_is_lawful (entries_view m) s = (refl, tt)
+first_is_lawful (tagged_view e) s = (refl, tt)
 
-first_goes_on : (view : ViewTree ℕ) → IsBuilt view → (s : ℕ → Content) → is_end (first_body view s) ≡ false
-first_goes_on (signal_view e) is s = refl
-first_goes_on (vector_view e) is s = refl
-first_goes_on (map_view m) is s = refl
-first_goes_on (entries_view m) is s = absurd is
-first_goes_on (tagged_view e) is s = refl
+first_goes_on : (view : ViewTree ℕ) (s : ℕ → Content) → is_end (first_body view s) ≡ false
+first_goes_on (signal_view e) s = refl
+first_goes_on (vector_view e) s = refl
+first_goes_on (map_view m) s = refl
+first_goes_on (entries_view m) s = refl
+first_goes_on (tagged_view e) s = refl
 
 lawful_is_showable : (seen : Shown) (given : Body) → IsLawfulBody seen given → IsShowable seen given
 lawful_is_showable seen Ended is = tt
@@ -289,13 +288,12 @@ module _ (port next : OneThread) (view : WatchedView) (new : ViewTask) (is : IsF
 
     row_polled : (given : Bool) → IsShowing given (known port) view → IsRow (known port) (known next) view.task new given row → IsRowPolled given
     row_polled false showing is_row =
-        let built : IsBuilt (numbered tree) = numbered_built tree is.ready.is_task.built in
         let whole : row.body ≡ first_body (numbered tree) (contents_at sources at) = is_row.0.whole ∙ ap (λ (at : List ℕ). first_body (numbered tree) (contents_at sources at)) at_is in
         record {
-          can = rw (shown_nothing showing is_row, whole) (first_is_lawful (numbered tree) built _);
-          goes_on = rw whole (first_goes_on (numbered tree) built _);
+          can = rw (shown_nothing showing is_row, whole) (first_is_lawful (numbered tree) _);
+          goes_on = rw whole (first_goes_on (numbered tree) _);
           polled_is = first_poll (numbered tree) sources at view.rows row.body showing.0 (at_ends showing is_row) whole;
-          shown_is = rw (same_tree, first_nothing showing is_row, whole) (first_shown (numbered tree) built _);
+          shown_is = rw (same_tree, first_nothing showing is_row, whole) (first_shown (numbered tree) _);
           tags = rw (first_nothing showing is_row) is_row.2;
         }
     row_polled true showing is_row =

@@ -8,12 +8,10 @@ use Rattle.sig_expr.specs.Shapes.{map_tree, sig_tree, vec_tree, view_tree}
 use Rattle.sig_expr.specs.Trees.{MapTree, map_source, mapped_values, SigTree, cell, mapped_signal, deduped, switched, length_of, total_of, at_key, VecTree, vector, mapped, filtered, filtered_by, mapped_by, sorted, joined, flattened, picked, keys_in, values_in, SigTrees, no_signals, more_signals, VecTrees, no_lists, more_lists}
 use Rattle.sig_expr.specs.declared.expressions.View.{View}
 use Rattle.sig_expr.specs.declared.expressions.View.TheVariants.{Entries, Enumerate, Map, Signal, Vector}
-use Rattle.sig_report.proofs.Views.{below_none, built_view, field_none, fields_none, or_none}
-use Rattle.sig_script.specs.Built.{unbuilt_views}
+use Rattle.sig_report.proofs.Views.{below_none, field_none, fields_none, or_none}
 use Rattle.sig_script.specs.Paths.{here_unless}
 use Rattle.sig_script.specs.Sizes.{is_short, map_size, sig_size, sigs_size, vec_size, vecs_size, view_size, views_size}
 use Rattle.sig_script.specs.declared.types.ViewDef.{ViewDef}
-use Rattle.sig_view.specs.Built.{IsBuilt}
 use Rattle.sig_view.specs.Longest.{longest, sig_longest, sigs_longest, vec_longest, vecs_longest}
 
 short_by : (bound : ℕ) (fits : Bool) → nat_le bound 65536 ≡ fits → here_unless fits ≡ None → bound ≤ 65536
@@ -22,19 +20,6 @@ short_by bound false is none = cc
 
 short : (bound : ℕ) → is_short bound ≡ None → bound ≤ 65536
 short bound none = short_by bound _ refl none
-
--- ---- what is built
-
--- the next view, and those behind it
-pub next_built : (place : ℕ) (defs : List ViewDef) (default : ViewDef) → unbuilt_views place (drop place defs) ≡ None → place < length defs → IsBuilt (view_tree (get_or defs place default).view)
-next_built place defs default none within =
-    let first = rw (drop_more defs place default within) at none in
-    built_view (get_or defs place default).view (below_none (decimal place) _ (or_none _ _ first).0)
-
-pub rest_unbuilt : (place : ℕ) (defs : List ViewDef) (default : ViewDef) → unbuilt_views place (drop place defs) ≡ None → place < length defs → unbuilt_views (place + 1) (drop (place + 1) defs) ≡ None
-rest_unbuilt place defs default none within =
-    let first = rw (drop_more defs place default within) at none in
-    (or_none _ _ first).1
 
 -- ---- sizes
 

@@ -7,7 +7,6 @@ ghost use Rattle.sig_expr.specs.Bounds.{cap_of};
 ghost use Rattle.sig_expr.specs.Leaves.{leaves};
 ghost use Rattle.sig_hist.specs.OneThread.{known};
 ghost use Rattle.sig_hist.specs.Ports.{IsSoundPort};
-ghost use Rattle.sig_script.specs.Built.{unbuilt_views};
 ghost use Rattle.sig_script.specs.Sizes.{views_size};
 ghost use Rattle.sig_view.specs.Tasks.{HasSeenMore};
 ghost use Rattle.sig_script.specs.SelfContained.{has_event};
@@ -198,8 +197,7 @@ fn leaves_of(alloc: Global, defs: &[ViewDef]) -> Result<LeafList, NoMemory>
 
 /// The views before their first rows.
 fn views_of(alloc: Global, defs: &[ViewDef], caps: &Caps) -> Result<Vec<WatchedView>, NoMemory>
-    requires built { unbuilt_views 0 defs.now ≡ None }
-    requires sized { views_size (cap_of caps.now) 0 defs.now ≡ None }
+    requires { views_size (cap_of caps.now) 0 defs.now ≡ None }
     ensures { IfOk result (λ views. AreFresh caps.now 0 defs.now views.items) }
 {
     let mut views = Vec::with_capacity(alloc, defs.len())?;

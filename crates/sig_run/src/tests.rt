@@ -45,7 +45,7 @@ fn run<R: Threads + Wait + Sync>(
 }
 
 /// Scripts, the status of each, and the text that is written.
-const PLAYS: [(&str, u8, &str); 29] = [
+const PLAYS: [(&str, u8, &str); 35] = [
     (SCRIPT, 0, REPORT),
     (STILL, 0, STILL_REPORT),
     (PASSED, 0, PASSED_REPORT),
@@ -95,9 +95,9 @@ const PLAYS: [(&str, u8, &str); 29] = [
         "source a vector [4]\n1 w push 5 -> ok\n2 w update 0 9 -> was 4\n3 w clear -> ok\n4 w leave -> ok\nfinal []\nview v signal\nat 0: value 1\nat 1: value 2\nat 2: moved\nat 3: value 0\nat 4: moved\nat 4: ended\nfinal 0\n",
     ),
     (
-        r#"{"version": 1, "sources": [{"name": "m", "map": [[1, 10]]}], "writers": [{"name": "w", "edits": [{"on": "m", "put": [2, 5]}, {"on": "m", "put": [2, 5]}, {"on": "m", "delete": 9}]}], "views": [{"name": "mm", "map": {"map": "m"}}], "schedule": ["mm", "w", "mm", "w", "mm", "w", "mm"]}"#,
+        r#"{"version": 1, "sources": [{"name": "m", "map": [[1, 10]]}], "writers": [{"name": "w", "edits": [{"on": "m", "put": [2, 5]}, {"on": "m", "put": [2, 5]}, {"on": "m", "delete": 9}]}], "views": [{"name": "mm", "map": {"map": "m"}}, {"name": "k", "vector": {"keys": {"map": "m"}}}], "schedule": ["mm", "k", "w", "mm", "k", "w", "mm", "k", "w", "mm", "k"]}"#,
         0,
-        "source m map {1: 10}\n1 w put 2 5 -> ok\n2 w put 2 5 -> was 5\n3 w delete 9 -> absent\n4 w leave -> ok\nfinal {1: 10, 2: 5}\nview mm map\nat 0: replace {1: 10}\nat 1: insert 2 5\nat 2: update 2 5\nat 3: moved\nat 4: moved\nat 4: ended\nfinal {1: 10, 2: 5}\n",
+        "source m map {1: 10}\n1 w put 2 5 -> ok\n2 w put 2 5 -> was 5\n3 w delete 9 -> absent\n4 w leave -> ok\nfinal {1: 10, 2: 5}\nview mm map\nat 0: replace {1: 10}\nat 1: insert 2 5\nat 2: update 2 5\nat 3: moved\nat 4: moved\nat 4: ended\nfinal {1: 10, 2: 5}\nview k vector\nat 0: replace [1]\nat 1: insert 1 2\nat 2: moved\nat 3: moved\nat 4: moved\nat 4: ended\nfinal [1, 2]\n",
     ),
     // Maps under and over a filter, and a dedupe over a map.
     (
@@ -168,19 +168,53 @@ const PLAYS: [(&str, u8, &str); 29] = [
         "script 6 3\n",
     ),
     (
-        r#"{"version": 1, "sources": [{"name": "a", "vector": [1]}], "writers": [], "views": [{"name": "v", "signal": {"sum": {"concat": [{"vector": "a"}, {"vector": "a"}]}}}]}"#,
-        4,
-        "script 8 /views/0/signal/sum\n",
-    ),
-    (
-        r#"{"version": 1, "sources": [{"name": "m", "map": []}], "writers": [], "views": [{"name": "v", "entries": {"map": "m"}}]}"#,
-        4,
-        "script 8 /views/0\n",
-    ),
-    (
         r#"{"version": 1, "sources": [{"name": "a", "vector": [1]}, {"name": "c", "cell": 1}], "shares": [{"name": "s", "start": 0, "signal": {"cell": "c"}}], "writers": [{"name": "w", "edits": [{"on": "a", "remove": 0}]}], "views": [{"name": "v", "signal": {"sum": {"vector": "a"}}}], "schedule": ["v", "w", "v"]}"#,
         4,
         "script 8 /shares\n",
+    ),
+    // Each block takes a difference of its list.
+    (
+        r#"{"version": 1, "sources": [{"name": "o", "vector": [0, 0]}, {"name": "a", "vector": [7]}], "writers": [{"name": "w", "edits": [{"on": "a", "push": 8}]}], "views": [{"name": "v", "vector": {"flatten": {"vector": "o"}, "bank": [{"vector": "a"}]}}], "schedule": ["v", "w", "v"]}"#,
+        0,
+        "source o vector [0, 0]\nfinal [0, 0]\nsource a vector [7]\n1 w push 8 -> ok\n2 w leave -> ok\nfinal [7, 8]\nview v vector\nat 0 0: replace [7, 7]\nat 0 1: insert 1 8; insert 3 8\nat 0 2: moved\nat 0 2: ended\nfinal [7, 8, 7, 8]\n",
+    ),
+    // A block moves element by element.
+    (
+        r#"{"version": 1, "sources": [{"name": "o", "vector": [0, 1]}, {"name": "a", "vector": [1, 2]}, {"name": "b", "vector": [3]}], "writers": [{"name": "w", "edits": [{"on": "o", "move": [0, 1]}]}], "views": [{"name": "v", "vector": {"flatten": {"vector": "o"}, "bank": [{"vector": "a"}, {"vector": "b"}]}}], "schedule": ["v", "w", "v"]}"#,
+        0,
+        "source o vector [0, 1]\n1 w move 0 1 -> ok\n2 w leave -> ok\nfinal [1, 0]\nsource a vector [1, 2]\nfinal [1, 2]\nsource b vector [3]\nfinal [3]\nview v vector\nat 0 0 0: replace [1, 2, 3]\nat 1 0 0: move 0 2; move 0 2\nat 2 0 0: moved\nat 2 0 0: ended\nfinal [3, 1, 2]\n",
+    ),
+    // One half of a list is replaced, and the other stays.
+    (
+        r#"{"version": 1, "sources": [{"name": "a", "vector": [1, 2]}, {"name": "b", "vector": [9]}], "writers": [{"name": "w", "edits": [{"on": "a", "replace": [3]}]}], "views": [{"name": "v", "vector": {"concat": [{"vector": "a"}, {"vector": "b"}]}}], "schedule": ["v", "w", "v"]}"#,
+        0,
+        "source a vector [1, 2]\n1 w replace [3] -> ok\n2 w leave -> ok\nfinal [3]\nsource b vector [9]\nfinal [9]\nview v vector\nat 0 0: replace [1, 2, 9]\nat 1 0: remove 0; remove 0; insert 0 3\nat 2 0: moved\nat 2 0: ended\nfinal [3, 9]\n",
+    ),
+    // An updated element keeps its tag.
+    (
+        r#"{"version": 1, "sources": [{"name": "a", "vector": [4, 6]}], "writers": [{"name": "w", "edits": [{"on": "a", "remove": 0}, {"on": "a", "update": [0, 9]}]}], "views": [{"name": "v", "enumerate": {"vector": "a"}}], "schedule": ["v", "w", "v", "w", "v"]}"#,
+        0,
+        "source a vector [4, 6]\n1 w remove 0 -> was 4\n2 w update 0 9 -> was 6\n3 w leave -> ok\nfinal [9]\nview v enumerate\nat 0: replace [#0 4, #1 6]\nat 1: remove 0\nat 2: update 0 #1 9\nat 3: moved\nat 3: ended\nfinal [#1 9]\n",
+    ),
+    (
+        r#"{"version": 1, "sources": [{"name": "m", "map": [[1, 10], [3, 30]]}], "writers": [{"name": "w", "edits": [{"on": "m", "put": [2, 20]}, {"on": "m", "put": [3, 31]}, {"on": "m", "delete": 1}, {"on": "m", "wipe": true}]}], "views": [{"name": "v", "vector": {"values": {"map": "m"}}}], "schedule": ["v", "w", "v", "w", "v", "w", "v", "w", "v"]}"#,
+        0,
+        "source m map {1: 10, 3: 30}\n1 w put 2 20 -> ok\n2 w put 3 31 -> was 30\n3 w delete 1 -> was 10\n4 w wipe -> ok\n5 w leave -> ok\nfinal {}\nview v vector\nat 0: replace [10, 30]\nat 1: insert 1 20\nat 2: update 2 31\nat 3: remove 0\nat 4: clear\nat 5: moved\nat 5: ended\nfinal []\n",
+    ),
+    (
+        r#"{"version": 1, "sources": [{"name": "m", "map": [[1, 10]]}], "writers": [{"name": "w", "edits": [{"on": "m", "put": [0, 5]}]}], "views": [{"name": "v", "entries": {"map": "m"}}], "schedule": ["v", "w", "v"]}"#,
+        0,
+        "source m map {1: 10}\n1 w put 0 5 -> ok\n2 w leave -> ok\nfinal {0: 5, 1: 10}\nview v entries\nat 0: replace [(1, 10)]\nat 1: insert 0 (0, 5)\nat 2: moved\nat 2: ended\nfinal [(0, 5), (1, 10)]\n",
+    ),
+    (
+        r#"{"version": 1, "sources": [{"name": "m", "map": [[1, 10]]}], "writers": [{"name": "w", "edits": [{"on": "m", "put": [2, 9]}, {"on": "m", "put": [1, 11]}, {"on": "m", "delete": 1}]}], "views": [{"name": "v", "signal": {"key": 1, "default": -1, "of": {"map": "m"}}}], "schedule": ["v", "w", "v", "w", "v", "w", "v"]}"#,
+        0,
+        "source m map {1: 10}\n1 w put 2 9 -> ok\n2 w put 1 11 -> was 10\n3 w delete 1 -> was 11\n4 w leave -> ok\nfinal {2: 9}\nview v signal\nat 0: value 10\nat 1: moved\nat 2: value 11\nat 3: value -1\nat 4: moved\nat 4: ended\nfinal -1\n",
+    ),
+    (
+        r#"{"version": 1, "sources": [{"name": "m", "map": [[1, 10]]}], "writers": [{"name": "w", "edits": [{"on": "m", "put": [1, -9223372036854775808]}, {"on": "m", "load": [[4, 2]]}]}], "views": [{"name": "v", "map": {"map_value": "neg", "of": {"map": "m"}}}], "schedule": ["v", "w", "v", "w", "v"]}"#,
+        0,
+        "source m map {1: 10}\n1 w put 1 -9223372036854775808 -> was 10\n2 w load {4: 2} -> ok\n3 w leave -> ok\nfinal {4: 2}\nview v map\nat 0: replace {1: -10}\nat 1: update 1 9223372036854775807\nat 2: replace {4: -2}\nat 3: moved\nat 3: ended\nfinal {4: -2}\n",
     ),
     // Three writers, one of them without edits, and sources of each kind.
     (
@@ -288,13 +322,18 @@ fn a_row_catches_up_with_more_entries_at_once(rt: HostRuntime) -> Result<(), Fai
     Ok(())
 }
 
+/// A script that flattens 256 elements over a list of so many.
+fn flattening(alloc: Global, count: usize) -> Result<String, AllocError> {
+    let outer = repeated(alloc, 256, "0", ",")?;
+    let bank = repeated(alloc, count, "1", ",")?;
+    format!(in alloc;
+        "{{\"version\":1,\"sources\":[{{\"name\":\"o\",\"vector\":[{outer}]}},{{\"name\":\"b\",\"vector\":[{bank}]}}],\"writers\":[],\"views\":[{{\"name\":\"v\",\"vector\":{{\"flatten\":{{\"vector\":\"o\"}},\"bank\":[{{\"vector\":\"b\"}}]}}}}]}}"
+    )
+}
+
 #[test]
 fn a_list_that_can_get_too_big_is_refused(rt: HostRuntime) -> Result<(), Fail> {
-    let outer = repeated(rt.alloc(), 256, "0", ",")?;
-    let bank = repeated(rt.alloc(), 257, "1", ",")?;
-    let text = format!(in rt.alloc();
-        "{{\"version\":1,\"sources\":[{{\"name\":\"o\",\"vector\":[{outer}]}},{{\"name\":\"b\",\"vector\":[{bank}]}}],\"writers\":[],\"views\":[{{\"name\":\"v\",\"vector\":{{\"flatten\":{{\"vector\":\"o\"}},\"bank\":[{{\"vector\":\"b\"}}]}}}}]}}"
-    )?;
+    let text = flattening(rt.alloc(), 257)?;
     assert!(rt;
         is_answered(
             &rt,
@@ -304,6 +343,14 @@ fn a_list_that_can_get_too_big_is_refused(rt: HostRuntime) -> Result<(), Fail> {
             "script 5 /views/0/vector\n"
         )?
     );
+    Ok(())
+}
+
+#[test]
+fn the_longest_list_is_played(rt: HostRuntime) -> Result<(), Fail> {
+    let text = flattening(rt.alloc(), 256)?;
+    let mut page = Page::new(rt.alloc(), 1 << 20, 1 << 16, Vec::new(rt.alloc()))?;
+    assert_eq!(rt; run(&rt, rt.alloc(), &["play"], text.as_str(), 0, &mut page)?, 0);
     Ok(())
 }
 

@@ -6,7 +6,6 @@ ghost use Rattle.sig_expr.specs.Shapes.{view_tree};
 ghost use Rattle.sig_hist.specs.OneThread.{known};
 ghost use Rattle.sig_report.specs.Playing.{polled};
 ghost use Rattle.sig_run.specs.Watching.{IsShowable, sources_under};
-ghost use Rattle.sig_view.specs.Built.{IsBuilt};
 ghost use Rattle.sig_view.specs.Longest.{longest};
 ghost use Rattle.sig_view.specs.SoundRows.{nothing_shown, replay_of, shown_after};
 ghost use Rattle.sig_view.specs.Tasks.{HasSeenMore, expression_of, positions_of};
@@ -35,8 +34,7 @@ impl WatchedView {
         caps: &Caps,
         first_leaf: usize,
     ) -> Result<WatchedView, NoMemory>
-        requires built { IsBuilt (view_tree view.now) }
-        requires short { longest (cap_of caps.now) (view_tree view.now) ≤ 65536 }
+        requires { longest (cap_of caps.now) (view_tree view.now) ≤ 65536 }
         ensures { IfOk result (IsFresh view.now caps.now first_leaf) }
     {
         Ok(WatchedView {

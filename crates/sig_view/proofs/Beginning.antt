@@ -12,7 +12,6 @@ use Rattle.sig_hist.specs.Ports.{IsSoundPort, PortState}
 use Rattle.sig_view.proofs.AllTried.{is_there}
 use Rattle.sig_view.proofs.FirstRows.{all_fetched, leaf_within}
 use Rattle.sig_view.proofs.Numbering.{same_leaves, view_short, within_caps}
-use Rattle.sig_view.specs.Built.{IsBuilt}
 use Rattle.sig_view.specs.FirstPolls.{HasBegun}
 use Rattle.sig_view.specs.Fetching.{AreFetched, HasTried, LacksBy, at_start, content_in, is_missing, is_nothing}
 use Rattle.sig_view.specs.Longest.{longest}
@@ -51,11 +50,11 @@ none_got zero leaf content is = cc
 none_got (suc count) zero content is = cc
 none_got (suc count) (suc leaf) content is = none_got count leaf content is
 
-pub ready_at_start : (s : PortState) (task : ViewTask) (first : ℕ) → IsBuilt (view_tree task.view) → longest (cap_of task.caps.value) (view_tree task.view) ≤ 65536 →
+pub ready_at_start : (s : PortState) (task : ViewTask) (first : ℕ) → longest (cap_of task.caps.value) (view_tree task.view) ≤ 65536 →
     task.walk ≡ at_start first (length (leaves (view_tree task.view))) → begun task.stage ≡ false → contents_got task.stage ≡ replicate (length (leaves (view_tree task.view))) None →
     CanPoll s task.view task.caps.value first → IsReady s task
-ready_at_start s task first built short walk fetching none port = record {
-  is_task = record { built = built; short = short; leaf_each = rw walk (length-replicate {A = ℕ} _ 0) };
+ready_at_start s task first short walk fetching none port = record {
+  is_task = record { short = short; leaf_each = rw walk (length-replicate {A = ℕ} _ 0) };
   port = rw walk port;
   can = rw walk (can_start s first (length (leaves (view_tree task.view))) port.sound port.numbers port.own);
   holds = holds_nothing task.stage fetching none;
@@ -148,7 +147,7 @@ starts_short t task contents ready all =
 module _ (s t : PortState) (old new : ViewTask) (ready : IsReady s old) (before : begun old.stage ≡ false) (same : IsSameTask old new) (gone : HasGone s t old.walk new.walk) where
   ready_after : Holds (contents_of t new) (view_of new) new.stage → IsReady t new
   ready_after holds = record {
-    is_task = record { built = rw same.view ready.is_task.built; short = rw (same.view, same.caps) ready.is_task.short; leaf_each = rw same.view (gone.leaves ∙ ready.is_task.leaf_each) };
+    is_task = record { short = rw (same.view, same.caps) ready.is_task.short; leaf_each = rw same.view (gone.leaves ∙ ready.is_task.leaf_each) };
     port = rw (same.view, same.caps, same.first) (still_pollable s t old.view old.caps.value old.walk.first gone.looked gone.can.sound ready.port);
     can = gone.can;
     holds = holds;
@@ -256,14 +255,14 @@ all_missing zero leaf within = absurd (omega (arith, within))
 all_missing (suc count) zero within = refl
 all_missing (suc count) (suc leaf) within = all_missing count leaf (omega (arith, within))
 
-pub new_at_start : (task : ViewTask) (first : ℕ) → IsBuilt (view_tree task.view) → longest (cap_of task.caps.value) (view_tree task.view) ≤ 65536 → task.walk ≡ at_start first (length (leaves (view_tree task.view))) →
+pub new_at_start : (task : ViewTask) (first : ℕ) → longest (cap_of task.caps.value) (view_tree task.view) ≤ 65536 → task.walk ≡ at_start first (length (leaves (view_tree task.view))) →
     begun task.stage ≡ false → contents_got task.stage ≡ replicate (length (leaves (view_tree task.view))) None → IsNew task.view task.caps.value first task
-new_at_start task first built short walk fetching none = record {
+new_at_start task first short walk fetching none = record {
   expression = refl;
   first_leaf = rw walk refl;
   no_row = no_row task.stage fetching;
   goes_on = no_end task.stage fetching;
   works = no_failure task.stage fetching;
   lacks = λ leaf within. lacking_is task.stage fetching leaf ∙ ap (λ (contents : List (Option Content)). is_missing contents leaf) none ∙ all_missing (length (leaves (view_tree task.view))) leaf within;
-  ready = λ s can. ready_at_start s task first built short walk fetching none can;
+  ready = λ s can. ready_at_start s task first short walk fetching none can;
 }

@@ -20,7 +20,7 @@ use Rattle.sig_hist.specs.Sources.{AreDistinct}
 use Rattle.sig_ops.specs.Tables.{filter_gives, map_gives}
 use Rattle.sig_view.proofs.Along.{same_awaited_list, same_list_flow, same_value_flows}
 use Rattle.sig_view.proofs.ByClass.{SignalsGo, no_part, one_part}
-use Rattle.sig_view.proofs.Carrying.{held_before, list_is_built, never_back, signals_are_built}
+use Rattle.sig_view.proofs.Carrying.{held_before, never_back}
 use Rattle.sig_view.proofs.Composing.{gone_again, walked_on}
 use Rattle.sig_view.proofs.GoingAlong.{short_after}
 use Rattle.sig_view.proofs.Leading.{flow_leads, signals_lead}
@@ -114,13 +114,13 @@ module _ (s t : PortState) (old mid : Progress) (can : CanWalk s old) (of after 
       held = held_before s u old new can both_gone
 
       leads : Leads op.items diffs (list_of (contents_at (sources_in u new) new.positions) (list_tree of))
-      leads = rw (diffs_are, items, ← held) (flow_leads (ways (sources_in u new) old.positions new.positions) way_back (list_tree of) (list_is_built of))
+      leads = rw (diffs_are, items, ← held) (flow_leads (ways (sources_in u new) old.positions new.positions) way_back (list_tree of))
 
       pub lawful : AreLawful op.items diffs
       lawful = leads.lawful
 
       signals_go : SignalsGo op.signals values (signals_of (contents_at (sources_in u new) new.positions) (signal_trees bank))
-      signals_go = rw (values_are, signals, ← held) (signals_lead (ways (sources_in u new) old.positions new.positions) way_back (signal_trees bank) (signals_are_built bank))
+      signals_go = rw (values_are, signals, ← held) (signals_lead (ways (sources_in u new) old.positions new.positions) way_back (signal_trees bank))
 
       pub each : length values ≡ length op.signals
       each = as_many signals_go

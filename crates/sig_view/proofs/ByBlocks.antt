@@ -17,7 +17,7 @@ use Rattle.sig_view.proofs.BlocksLead.{PartShort, all_go, outer_after, parts_aft
 use Rattle.sig_view.proofs.ByClass.{EachGoes}
 use Rattle.sig_view.proofs.ByHalves.{each_less}
 use Rattle.sig_view.proofs.ByList.{both_gone, both_walked, first_flow, first_leads, first_short, first_stands, held, rest_apart, rest_has, rest_holds, rest_way}
-use Rattle.sig_view.proofs.Carrying.{lists_are_built, never_back}
+use Rattle.sig_view.proofs.Carrying.{never_back}
 use Rattle.sig_view.proofs.Composing.{not_walked}
 use Rattle.sig_view.proofs.GoingAlong.{goes}
 use Rattle.sig_view.proofs.Leading.{lists_lead}
@@ -118,7 +118,7 @@ module _ (s t : PortState) (old mid : Progress) (op : Blocks) (of after : ListOp
     lists_are = second.flow ∙ same_list_flows _ _ (list_trees bank) (rest_way s t old mid may.can of after diffs first more may.has may.apart u new second.gone _ among second.walked)
 
     bank_leads : EachGoes (Leads {T = ℤ}) (lists_of holds (list_trees bank)) lists (lists_of ends (list_trees bank))
-    bank_leads = rw (lists_are, ← back) (lists_lead (ways (sources_in u new) old.positions new.positions) (never_back s u old new may.can gone walked.goes_on) (list_trees bank) (lists_are_built bank))
+    bank_leads = rw (lists_are, ← back) (lists_lead (ways (sources_in u new) old.positions new.positions) (never_back s u old new may.can gone walked.goes_on) (list_trees bank))
 
     bank_short : EachGoes (PartShort (greatest_bound caps (list_trees bank))) (lists_of holds (list_trees bank)) lists (lists_of ends (list_trees bank))
     bank_short = rw lists_are (bank_within s u old new may.can gone walked.goes_on bank (greatest_bound caps (list_trees bank)) (omega arith))

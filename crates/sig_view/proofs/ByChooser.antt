@@ -10,7 +10,7 @@ use Rattle.sig_expr.specs.Trees.{SigTrees, no_signals, more_signals, VecTrees, n
 use Rattle.sig_hist.specs.Ports.{PortState}
 use Rattle.sig_hist.specs.Sources.{AreDistinct, is_among}
 use Rattle.sig_view.proofs.Along.{AlikeOn, same_awaited_value, same_list, same_lists, same_signals, same_value, same_value_flow}
-use Rattle.sig_view.proofs.Carrying.{held_before, never_back, signal_is_built}
+use Rattle.sig_view.proofs.Carrying.{held_before, never_back}
 use Rattle.sig_view.proofs.Composing.{gone_again, walked_on}
 use Rattle.sig_view.proofs.Leading.{signal_leads}
 use Rattle.sig_view.proofs.Parts.{distinct_back, each_agrees, first_holds, first_way, none_of_both, none_of_first, not_among_fewer, second_has, second_holds, second_way}
@@ -106,7 +106,7 @@ module _ (s t : PortState) (old mid : Progress) (can : CanWalk s old) (of after 
   -- the chooser's value is the one that it gives, or the one that it had
   pub chooser_is : (chooser : ℤ) → chooser ≡ value_of held_at (signal_tree of) → value_of came_to (signal_tree of) ≡ unwrap_or value chooser
   chooser_is chooser was =
-      rw (was, first.flow, ← held_before s t old mid can first.gone) (signal_leads (ways (sources_in t mid) old.positions mid.positions) (never_back s t old mid can first.gone first.walked.goes_on) (signal_tree of) (signal_is_built of))
+      rw (was, first.flow, ← held_before s t old mid can first.gone) (signal_leads (ways (sources_in t mid) old.positions mid.positions) (never_back s t old mid can first.gone first.walked.goes_on) (signal_tree of))
 
   module _ (u : PortState) (new : Progress) (went : HasGone t u mid new) (others : (ℕ → Content) → List ℕ) (of_second : IsAmong (others (contents_at (sources_in u new) new.positions)) more) (second : HasWalked t u mid new (others (contents_at (sources_in u new) new.positions))) where
     abbrev ends_at : ℕ → Content

@@ -13,42 +13,10 @@ use Rattle.sig_view.proofs.Composing.{goes_ahead}
 use Rattle.sig_view.proofs.Leading.{flow_leads}
 use Rattle.sig_view.proofs.Staying.{same_contents}
 use Rattle.sig_view.proofs.Turning.{Leads}
-use Rattle.sig_view.specs.Built.{AreListsBuilt, AreSignalsBuilt, IsListBuilt, IsSignalBuilt}
 use Rattle.sig_view.specs.Flow.{GoesAhead, list_flow, through}
 use Rattle.sig_view.specs.Nodes.{ListOps, source, images, kept, ordered, let_in, raised, pick_of, keys_by, values_by, SignalOps, number, image_of, without_repeats, switch_of, count_of, sum_of, value_at_key, SignalsOps, no_signal, one_signal, ListsOps, no_list, one_list, ListStands, list_tree, list_trees, signal_tree, signal_trees, halves_of, blocks_of}
 use Rattle.sig_view.specs.SoundRows.{GoOn, contents_at, ways}
 use Rattle.sig_view.specs.Walking.{CanWalk, HasGone, Progress, seen_sources, sources_in}
-
-mutual
-  pub list_is_built : (ops : ListOps) → IsListBuilt (list_tree ops)
-  list_is_built (source leaf) = tt
-  list_is_built (images fun ops) = list_is_built ops
-  list_is_built (kept filter ops) = list_is_built ops
-  list_is_built (ordered list ops) = list_is_built ops
-  list_is_built (let_in by ops bank) = (list_is_built ops, signals_are_built bank)
-  list_is_built (raised by ops bank) = (list_is_built ops, signals_are_built bank)
-  list_is_built (halves_of halves left right) = (list_is_built left, list_is_built right)
-  list_is_built (blocks_of blocks ops bank) = (list_is_built ops, lists_are_built bank)
-  list_is_built (pick_of choice ops bank) = (signal_is_built ops, lists_are_built bank)
-  list_is_built (keys_by entries m) = tt
-  list_is_built (values_by entries m) = tt
-
-  pub signal_is_built : (ops : SignalOps) → IsSignalBuilt (signal_tree ops)
-  signal_is_built (number leaf) = tt
-  signal_is_built (image_of fun ops) = signal_is_built ops
-  signal_is_built (without_repeats last ops) = signal_is_built ops
-  signal_is_built (switch_of choice ops bank) = (signal_is_built ops, signals_are_built bank)
-  signal_is_built (count_of len ops) = list_is_built ops
-  signal_is_built (sum_of items ops) = list_is_built ops
-  signal_is_built (value_at_key key m) = tt
-
-  pub signals_are_built : (bank : SignalsOps) → AreSignalsBuilt (signal_trees bank)
-  signals_are_built no_signal = tt
-  signals_are_built (one_signal ops bank) = (signal_is_built ops, signals_are_built bank)
-
-  pub lists_are_built : (bank : ListsOps) → AreListsBuilt (list_trees bank)
-  lists_are_built no_list = tt
-  lists_are_built (one_list ops bank) = (list_is_built ops, lists_are_built bank)
 
 module _ (s t : PortState) (old new : Progress) (can : CanWalk s old) (gone : HasGone s t old new) where
   -- the sources are those of the leaves that set out
@@ -64,7 +32,7 @@ module _ (s t : PortState) (old new : Progress) (can : CanWalk s old) (gone : Ha
     never_back = goes_ahead t new.first (length new.positions) gone.can.sound old.positions new.positions goes_on
 
     pub carries : (ops : ListOps) → Leads (list_of (contents_at (sources_in s old) old.positions) (list_tree ops)) (list_flow (ways (sources_in t new) old.positions new.positions) (list_tree ops)) (list_of (contents_at (sources_in t new) new.positions) (list_tree ops))
-    carries ops = rw (← held_before) (flow_leads (ways (sources_in t new) old.positions new.positions) never_back (list_tree ops) (list_is_built ops))
+    carries ops = rw (← held_before) (flow_leads (ways (sources_in t new) old.positions new.positions) never_back (list_tree ops))
 
     -- the list below a filter has stepped: before and after that it had these operators
     module _ (below after : ListOps) (diffs : List (VecDiff ℤ)) (flow : diffs ≡ list_flow (ways (sources_in t new) old.positions new.positions) (list_tree below))

@@ -37,7 +37,6 @@ use Rattle.sig_view.proofs.ByMap.{FollowsMap, IsOrderly, MapLeads, entries_follo
 use Rattle.sig_view.proofs.Tags.{tags_differ, tags_follow, tags_lawful, tags_replay}
 use Rattle.sig_view.proofs.HalvesLead.{halves_lead}
 use Rattle.sig_view.proofs.Turning.{Leads, behind_is, entering_leads, filter_keeps_up, map_leads, sorted_keeps_up, through_leads}
-use Rattle.sig_view.specs.Built.{AreListsBuilt, AreSignalsBuilt, IsBuilt, IsListBuilt, IsSignalBuilt}
 use Rattle.sig_view.specs.Flow.{GoesAhead, Way, before, flow, list_flow, list_flows, map_flow, new, of_map, old, passed, tags_after, value_flow, value_flows, with_tags}
 use Rattle.sig_view.specs.SoundRows.{IsLawfulBody, IsShownBy, TagsDiffer, shown_after, tags_in, tags_made, without_tags}
 
@@ -169,44 +168,44 @@ module _ {L : Type 0} (way : L → Way) (goes : (leaf : L) → GoesAhead (way le
 
   mutual
     -- a list
-    pub flow_leads : (e : VecTree L) → IsListBuilt e → Leads (list_of (old way) e) (list_flow way e) (list_of (new way) e)
-    flow_leads (vector leaf) is = rw (behind_is (way leaf) (goes leaf).ahead) (entering_leads (before (way leaf)) (way leaf).source.plan.cap (passed (way leaf)))
-    flow_leads (mapped f e) is = map_leads (image f) (list_of (old way) e) (list_flow way e) (list_of (new way) e) (flow_leads e is)
-    flow_leads (filtered p e) is = through_leads (filter_keeps_up (passes p)) (list_of (old way) e) (list_flow way e) (list_of (new way) e) (flow_leads e is)
-    flow_leads (sorted f e) is = through_leads (sorted_keeps_up (image f)) (list_of (old way) e) (list_flow way e) (list_of (new way) e) (flow_leads e is)
-    flow_leads (filtered_by e bank) is =
-        filter_by_leads (list_of (old way) e) (list_flow way e) (list_of (new way) e) (signals_of (old way) bank) (value_flows way bank) (signals_of (new way) bank) (flow_leads e is.0) (signals_lead bank is.1)
-    flow_leads (mapped_by e bank) is =
-        map_by_leads (list_of (old way) e) (list_flow way e) (list_of (new way) e) (signals_of (old way) bank) (value_flows way bank) (signals_of (new way) bank) (flow_leads e is.0) (signals_lead bank is.1)
-    flow_leads (joined a b) is =
-        halves_lead (list_of (old way) a) (list_flow way a) (list_of (new way) a) (list_of (old way) b) (list_flow way b) (list_of (new way) b) (flow_leads a is.0) (flow_leads b is.1)
-    flow_leads (flattened e bank) is =
-        blocks_lead (list_of (old way) e) (list_flow way e) (list_of (new way) e) (flow_leads e is.0) (lists_of (old way) bank) (list_flows way bank) (lists_of (new way) bank) (lists_lead bank is.1)
-    flow_leads (picked e bank) is =
-        pick_leads (value_of (old way) e) (value_flow way e) (value_of (new way) e) (lists_of (old way) bank) (list_flows way bank) (lists_of (new way) bank) (signal_leads e is.0) (lists_lead bank is.1)
-    flow_leads (keys_in m) is = of_map_flow_leads keys_follow m
-    flow_leads (values_in m) is = of_map_flow_leads values_follow m
-    flow_leads _ is = absurd is
+    pub flow_leads : (e : VecTree L) → Leads (list_of (old way) e) (list_flow way e) (list_of (new way) e)
+    flow_leads (vector leaf) = rw (behind_is (way leaf) (goes leaf).ahead) (entering_leads (before (way leaf)) (way leaf).source.plan.cap (passed (way leaf)))
+    flow_leads (mapped f e) = map_leads (image f) (list_of (old way) e) (list_flow way e) (list_of (new way) e) (flow_leads e)
+    flow_leads (filtered p e) = through_leads (filter_keeps_up (passes p)) (list_of (old way) e) (list_flow way e) (list_of (new way) e) (flow_leads e)
+    flow_leads (sorted f e) = through_leads (sorted_keeps_up (image f)) (list_of (old way) e) (list_flow way e) (list_of (new way) e) (flow_leads e)
+    flow_leads (filtered_by e bank) =
+        filter_by_leads (list_of (old way) e) (list_flow way e) (list_of (new way) e) (signals_of (old way) bank) (value_flows way bank) (signals_of (new way) bank) (flow_leads e) (signals_lead bank)
+    flow_leads (mapped_by e bank) =
+        map_by_leads (list_of (old way) e) (list_flow way e) (list_of (new way) e) (signals_of (old way) bank) (value_flows way bank) (signals_of (new way) bank) (flow_leads e) (signals_lead bank)
+    flow_leads (joined a b) =
+        halves_lead (list_of (old way) a) (list_flow way a) (list_of (new way) a) (list_of (old way) b) (list_flow way b) (list_of (new way) b) (flow_leads a) (flow_leads b)
+    flow_leads (flattened e bank) =
+        blocks_lead (list_of (old way) e) (list_flow way e) (list_of (new way) e) (flow_leads e) (lists_of (old way) bank) (list_flows way bank) (lists_of (new way) bank) (lists_lead bank)
+    flow_leads (picked e bank) =
+        pick_leads (value_of (old way) e) (value_flow way e) (value_of (new way) e) (lists_of (old way) bank) (list_flows way bank) (lists_of (new way) bank) (signal_leads e) (lists_lead bank)
+    flow_leads (keys_in m) = of_map_flow_leads keys_follow m
+    flow_leads (values_in m) = of_map_flow_leads values_follow m
+    flow_leads _ = absurd is
 
     -- a signal
-    pub signal_leads : (e : SigTree L) → IsSignalBuilt e → value_of (new way) e ≡ unwrap_or (value_flow way e) (value_of (old way) e)
-    signal_leads (cell leaf) is = rw (behind_is (way leaf) (goes leaf).ahead) (number_entering_leads (before (way leaf)) (way leaf).source.plan.cap (passed (way leaf)))
-    signal_leads (mapped_signal f e) is = ap (image f) (signal_leads e is) ∙ image_leads (image f) (value_flow way e) (value_of (old way) e)
-    signal_leads (deduped e) is = signal_leads e is ∙ dedupe_leads (value_flow way e) (value_of (old way) e)
-    signal_leads (switched e bank) is =
-        switch_leads (value_of (old way) e) (value_flow way e) (value_of (new way) e) (signals_of (old way) bank) (value_flows way bank) (signals_of (new way) bank) (signal_leads e is.0) (signals_lead bank is.1)
-    signal_leads (length_of e) is = given_leads (pos (length (list_of (old way) e))) (pos (length (list_of (new way) e))) _ refl
-    signal_leads (total_of e) is = given_leads (clamped (total (list_of (old way) e))) (clamped (total (list_of (new way) e))) _ refl
-    signal_leads (at_key key default m) is = given_leads (value_of (old way) (at_key key default m)) (value_of (new way) (at_key key default m)) _ refl
+    pub signal_leads : (e : SigTree L) → value_of (new way) e ≡ unwrap_or (value_flow way e) (value_of (old way) e)
+    signal_leads (cell leaf) = rw (behind_is (way leaf) (goes leaf).ahead) (number_entering_leads (before (way leaf)) (way leaf).source.plan.cap (passed (way leaf)))
+    signal_leads (mapped_signal f e) = ap (image f) (signal_leads e) ∙ image_leads (image f) (value_flow way e) (value_of (old way) e)
+    signal_leads (deduped e) = signal_leads e ∙ dedupe_leads (value_flow way e) (value_of (old way) e)
+    signal_leads (switched e bank) =
+        switch_leads (value_of (old way) e) (value_flow way e) (value_of (new way) e) (signals_of (old way) bank) (value_flows way bank) (signals_of (new way) bank) (signal_leads e) (signals_lead bank)
+    signal_leads (length_of e) = given_leads (pos (length (list_of (old way) e))) (pos (length (list_of (new way) e))) _ refl
+    signal_leads (total_of e) = given_leads (clamped (total (list_of (old way) e))) (clamped (total (list_of (new way) e))) _ refl
+    signal_leads (at_key key default m) = given_leads (value_of (old way) (at_key key default m)) (value_of (new way) (at_key key default m)) _ refl
 
     -- the parts of a bank
-    pub signals_lead : (bank : SigTrees L) → AreSignalsBuilt bank → SignalsGo (signals_of (old way) bank) (value_flows way bank) (signals_of (new way) bank)
-    signals_lead no_signals is = no_part
-    signals_lead (more_signals e bank) is = one_part (value_of (old way) e) (value_flow way e) (value_of (new way) e) (signal_leads e is.0) (signals_lead bank is.1)
+    pub signals_lead : (bank : SigTrees L) → SignalsGo (signals_of (old way) bank) (value_flows way bank) (signals_of (new way) bank)
+    signals_lead no_signals = no_part
+    signals_lead (more_signals e bank) = one_part (value_of (old way) e) (value_flow way e) (value_of (new way) e) (signal_leads e) (signals_lead bank)
 
-    pub lists_lead : (bank : VecTrees L) → AreListsBuilt bank → EachGoes (Leads {T = ℤ}) (lists_of (old way) bank) (list_flows way bank) (lists_of (new way) bank)
-    lists_lead no_lists is = no_part
-    lists_lead (more_lists e bank) is = one_part (list_of (old way) e) (list_flow way e) (list_of (new way) e) (flow_leads e is.0) (lists_lead bank is.1)
+    pub lists_lead : (bank : VecTrees L) → EachGoes (Leads {T = ℤ}) (lists_of (old way) bank) (list_flows way bank) (lists_of (new way) bank)
+    lists_lead no_lists = no_part
+    lists_lead (more_lists e bank) = one_part (list_of (old way) e) (list_flow way e) (list_of (new way) e) (flow_leads e) (lists_lead bank)
 
   -- the body is lawful where the view's content before is shown, and the content after is shown then, with the tags that follow
   pub record BodyLeads (view : ViewTree L) (seen : Shown) (next : ℕ) : Type 0 where
@@ -215,31 +214,31 @@ module _ {L : Type 0} (way : L → Way) (goes : (leaf : L) → GoesAhead (way le
     pub follow : tags_in (shown_after seen (with_tags (tags_in seen next) (flow way view))) (next + tags_made (with_tags (tags_in seen next) (flow way view))) ≡ tags_after (tags_in seen next) (flow way view)
     pub differ : TagsDiffer (tags_after (tags_in seen next) (flow way view))
 
-  pub view_leads : (view : ViewTree L) (seen : Shown) (next : ℕ) → IsBuilt view → IsShownBy view (old way) (record { shown = seen; next = next }) → BodyLeads view seen next
-  view_leads (signal_view e) (shown.Signal value) next is shows_it =
+  pub view_leads : (view : ViewTree L) (seen : Shown) (next : ℕ) → IsShownBy view (old way) (record { shown = seen; next = next }) → BodyLeads view seen next
+  view_leads (signal_view e) (shown.Signal value) next shows_it =
       let same : value ≡ value_of (old way) e = (let shows = shows_it.shows in cc) in
-      record { lawful = tt; replay = rw same (ap shown.Signal (sym (signal_leads e is))); follow = refl; differ = tt }
-  view_leads (vector_view e) (shown.Vector items) next is shows_it =
+      record { lawful = tt; replay = rw same (ap shown.Signal (sym (signal_leads e))); follow = refl; differ = tt }
+  view_leads (vector_view e) (shown.Vector items) next shows_it =
       let same : items ≡ list_of (old way) e = (let shows = shows_it.shows in cc) in
-      let leads = flow_leads e is in
+      let leads = flow_leads e in
       record { lawful = rw same leads.lawful; replay = rw same (ap shown.Vector leads.replay); follow = refl; differ = tt }
-  view_leads (map_view m) (shown.Map pairs) next is shows_it =
+  view_leads (map_view m) (shown.Map pairs) next shows_it =
       let same : pairs ≡ entries_of (old way) m = (let shows = shows_it.shows in cc) in
       let leads = map_flow_leads m in
       record { lawful = rw same leads.lawful; replay = rw same (ap shown.Map leads.replay); follow = refl; differ = tt }
-  view_leads (entries_view m) (shown.Pairs pairs) next is shows_it =
+  view_leads (entries_view m) (shown.Pairs pairs) next shows_it =
       let same : pairs ≡ entries_of (old way) m = (let shows = shows_it.shows in cc) in
       let leads = of_map_flow_leads entries_follow m in
       record { lawful = rw same leads.lawful; replay = rw same (ap shown.Pairs leads.replay); follow = refl; differ = tt }
-  view_leads (tagged_view e) (shown.Tagged elements) next is shows_it =
+  view_leads (tagged_view e) (shown.Tagged elements) next shows_it =
       let op : Enumeration = record { elements = elements; next = next } in
       let same : values_of elements ≡ list_of (old way) e = (let shows = shows_it.shows in cc) in
       let stands : IsEnumeration op (list_of (old way) e) = record { values = same; distinct = shows_it.tags.distinct; given_out = shows_it.tags.given_out } in
-      let leads = flow_leads e is in
+      let leads = flow_leads e in
       record {
         lawful = tags_lawful op _ _ (list_flow way e) stands leads;
         replay = ap shown.Vector (tags_replay op _ _ (list_flow way e) stands leads);
         follow = ap Some (tags_follow op (list_flow way e));
         differ = tags_differ op _ _ (list_flow way e) stands leads;
       }
-  view_leads _ _ next is shows_it = (let kind = shows_it.kind in let shows = shows_it.shows in cc)
+  view_leads _ _ next shows_it = (let kind = shows_it.kind in let shows = shows_it.shows in cc)

@@ -8,7 +8,6 @@ use Rattle.sig_expr.specs.Bounds.{greatest_bound, map_bound, vec_bound}
 use Rattle.sig_expr.specs.Leaves.{leaves, map_leaves, number_map, number_sig, number_sigs, number_vec, number_vecs, numbered, sig_leaves, sigs_leaves, vec_leaves, vecs_leaves}
 use Rattle.sig_expr.specs.Trees.{MapTree, map_source, mapped_values, SigTree, cell, mapped_signal, deduped, switched, length_of, total_of, at_key, VecTree, vector, mapped, filtered, filtered_by, mapped_by, sorted, joined, flattened, picked, keys_in, values_in, SigTrees, no_signals, more_signals, VecTrees, no_lists, more_lists, ViewTree, signal_view, vector_view, map_view, entries_view, tagged_view}
 use Rattle.sig_hist.specs.Sources.{AreDistinct, is_among}
-use Rattle.sig_view.specs.Built.{AreListsBuilt, AreSignalsBuilt, IsBuilt, IsListBuilt, IsSignalBuilt}
 use Rattle.sig_view.specs.Longest.{longest, sig_longest, sigs_longest, vec_longest, vecs_longest}
 
 -- ---- numbers
@@ -211,45 +210,3 @@ within_caps cap other first (l ∷ labels) each = (
   (let here = each 0 (omega arith) in let same : first + 0 ≡ first = omega arith in rw same at here),
   within_caps cap other (first + 1) labels (λ leaf within. let here = each (suc leaf) (omega (arith, within)) in let same : first + suc leaf ≡ first + 1 + leaf = omega arith in rw same at here),
 )
-
--- ---- what is built
-
-module _ {L : Type 0} where
-  mutual
-    pub list_built : (e : VecTree L) (first : ℕ) → IsListBuilt e → IsListBuilt (number_vec e first)
-    list_built (vector leaf) first is = tt
-    list_built (mapped f e) first is = list_built e first is
-    list_built (filtered p e) first is = list_built e first is
-    list_built (sorted f e) first is = list_built e first is
-    list_built (filtered_by e bank) first is = (list_built e first is.0, signals_built bank (first + length (vec_leaves e)) is.1)
-    list_built (mapped_by e bank) first is = (list_built e first is.0, signals_built bank (first + length (vec_leaves e)) is.1)
-    list_built (joined a b) first is = (list_built a first is.0, list_built b (first + length (vec_leaves a)) is.1)
-    list_built (flattened e bank) first is = (list_built e first is.0, lists_built bank (first + length (vec_leaves e)) is.1)
-    list_built (picked e bank) first is = (signal_built e first is.0, lists_built bank (first + length (sig_leaves e)) is.1)
-    list_built (keys_in m) first is = tt
-    list_built (values_in m) first is = tt
-    list_built _ first is = absurd is
-
-    signal_built : (e : SigTree L) (first : ℕ) → IsSignalBuilt e → IsSignalBuilt (number_sig e first)
-    signal_built (cell leaf) first is = tt
-    signal_built (mapped_signal f e) first is = signal_built e first is
-    signal_built (deduped e) first is = signal_built e first is
-    signal_built (switched e bank) first is = (signal_built e first is.0, signals_built bank (first + length (sig_leaves e)) is.1)
-    signal_built (length_of e) first is = list_built e first is
-    signal_built (total_of e) first is = list_built e first is
-    signal_built (at_key key default m) first is = tt
-
-    signals_built : (bank : SigTrees L) (first : ℕ) → AreSignalsBuilt bank → AreSignalsBuilt (number_sigs bank first)
-    signals_built no_signals first is = tt
-    signals_built (more_signals e bank) first is = (signal_built e first is.0, signals_built bank (first + length (sig_leaves e)) is.1)
-
-    pub lists_built : (bank : VecTrees L) (first : ℕ) → AreListsBuilt bank → AreListsBuilt (number_vecs bank first)
-    lists_built no_lists first is = tt
-    lists_built (more_lists e bank) first is = (list_built e first is.0, lists_built bank (first + length (vec_leaves e)) is.1)
-
-  pub numbered_built : (view : ViewTree L) → IsBuilt view → IsBuilt (numbered view)
-  numbered_built (signal_view e) is = signal_built e 0 is
-  numbered_built (vector_view e) is = list_built e 0 is
-  numbered_built (map_view m) is = tt
-  numbered_built (entries_view m) is = tt
-  numbered_built (tagged_view e) is = list_built e 0 is

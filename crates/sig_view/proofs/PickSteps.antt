@@ -17,7 +17,7 @@ use Rattle.sig_hist.specs.Sources.{AreDistinct}
 use Rattle.sig_view.proofs.Along.{same_list_flows, same_lists}
 use Rattle.sig_view.proofs.ByClass.{EachGoes, each_given, part_goes}
 use Rattle.sig_view.proofs.ByChooser.{as_many_lists, bank_apart, bank_holds, bank_way, both_walked, chooser_is, held, kept_lists, same_chooser, stays, still_stands, value_whole}
-use Rattle.sig_view.proofs.Carrying.{held_before, lists_are_built, never_back}
+use Rattle.sig_view.proofs.Carrying.{held_before, never_back}
 use Rattle.sig_view.proofs.Leading.{lists_lead}
 use Rattle.sig_view.proofs.Turning.{Leads}
 use Rattle.sig_view.specs.Choices.{after_picked}
@@ -62,7 +62,7 @@ module _ (s t : PortState) (old mid : Progress) (can : CanWalk s old) (of after 
 
     goes_back : EachGoes (Leads {T = ℤ}) (lists_of came (list_trees bank)) (list_flows (ways (sources_in u new) mid.positions new.positions) (list_trees bank)) (lists_of ends (list_trees bank))
     goes_back = rw (← held_before t u mid new first.gone.can second.gone)
-        (lists_lead (ways (sources_in u new) mid.positions new.positions) (never_back t u mid new first.gone.can second.gone second.walked.goes_on) (list_trees bank) (lists_are_built bank))
+        (lists_lead (ways (sources_in u new) mid.positions new.positions) (never_back t u mid new first.gone.can second.gone second.walked.goes_on) (list_trees bank))
 
     -- the chosen list takes the differences
     part_leads : Leads (list_at anew place) diffs (get_or (lists_of ends (list_trees bank)) place [])

@@ -30,7 +30,7 @@ use Rattle.sig_hist.specs.declared.edits.Entry.{Entry}
 use Rattle.sig_ops.specs.Tables.{map_gives}
 use Rattle.sig_ops.specs.TurnSteps.{stays_append}
 use Rattle.sig_view.proofs.BlocksLead.{PartShort, blocks_short}
-use Rattle.sig_view.proofs.Carrying.{held_before, list_is_built, lists_are_built, never_back, same_sources}
+use Rattle.sig_view.proofs.Carrying.{held_before, never_back, same_sources}
 use Rattle.sig_view.proofs.ByClass.{EachGoes, no_part, one_part, GoesBySignals, IsGivenOrKept, SignalsGo, by_signals_lead, chosen_goes, filter_goes_by_signals, map_goes_by_signals, pick_turns}
 use Rattle.sig_view.proofs.ByMap.{FollowsMap, keys_follow, of_map_stays, values_follow}
 use Rattle.sig_view.proofs.MapShortening.{map_flow_short, seen_map_short}
@@ -39,7 +39,6 @@ use Rattle.sig_view.proofs.GoingAlong.{GoesShort, short_after, short_for_more, s
 use Rattle.sig_view.proofs.HalvesLead.{halves_short}
 use Rattle.sig_view.proofs.Staying.{same_plan}
 use Rattle.sig_view.proofs.Turning.{KeepsUp, Leads, filter_keeps_up, map_keeps_up, map_leads, map_through, sorted_keeps_up, through_follows, through_leads}
-use Rattle.sig_view.specs.Built.{AreListsBuilt, IsListBuilt}
 use Rattle.sig_view.specs.Flow.{GoesAhead, Way, before, by_signals, given_list, list_flow, list_flows, map_flow, new, of_map, old, passed, state_at, through, value_flow}
 use Rattle.sig_view.specs.Longest.{vec_longest, vecs_longest}
 use Rattle.sig_view.specs.Nodes.{ListOps, ListsOps, list_tree, list_trees}
@@ -191,42 +190,42 @@ module _ {L : Type 0} (way : L → Way) (goes : (leaf : L) → GoesAhead (way le
       }
 
   mutual
-    pub flows_short : (most : ℕ) (e : VecTree L) → IsListBuilt e → vec_bound cap e ≤ most → GoesShort most (list_of (old way) e) (list_flow way e)
-    flows_short most (vector leaf) is few = record {
+    pub flows_short : (most : ℕ) (e : VecTree L) → vec_bound cap e ≤ most → GoesShort most (list_of (old way) e) (list_flow way e)
+    flows_short most (vector leaf) few = record {
       before = le_trans (short leaf) few;
       stays = stays_for_more (cap leaf) most few _ _ (entering_short (before (way leaf)) (cap leaf) (passed (way leaf)) (short leaf));
     }
-    flows_short most (mapped f e) is few = map_short most (image f) (list_of (old way) e) (list_flow way e) (flow_leads way goes e is).lawful (flows_short most e is few)
-    flows_short most (filtered p e) is few = through_short most (filter_keeps_up (passes p)) (list_of (old way) e) (list_flow way e) (flow_leads way goes e is).lawful (flows_short most e is few)
-    flows_short most (sorted f e) is few = through_short most (sorted_keeps_up (image f)) (list_of (old way) e) (list_flow way e) (flow_leads way goes e is).lawful (flows_short most e is few)
-    flows_short most (filtered_by e bank) is few =
-        let below = flows_short most e is.0 few in
-        let leads = flow_leads way goes e is.0 in
-        by_signals_short most filter_goes_by_signals (list_of (new way) e) (short_after most _ _ _ leads below) (signals_lead way goes bank is.1) _ _
+    flows_short most (mapped f e) few = map_short most (image f) (list_of (old way) e) (list_flow way e) (flow_leads way goes e).lawful (flows_short most e few)
+    flows_short most (filtered p e) few = through_short most (filter_keeps_up (passes p)) (list_of (old way) e) (list_flow way e) (flow_leads way goes e).lawful (flows_short most e few)
+    flows_short most (sorted f e) few = through_short most (sorted_keeps_up (image f)) (list_of (old way) e) (list_flow way e) (flow_leads way goes e).lawful (flows_short most e few)
+    flows_short most (filtered_by e bank) few =
+        let below = flows_short most e few in
+        let leads = flow_leads way goes e in
+        by_signals_short most filter_goes_by_signals (list_of (new way) e) (short_after most _ _ _ leads below) (signals_lead way goes bank) _ _
         (through_leads (filter_keeps_up (is_let_in (signals_of (old way) bank))) (list_of (old way) e) (list_flow way e) (list_of (new way) e) leads)
         (through_short most (filter_keeps_up (is_let_in (signals_of (old way) bank))) (list_of (old way) e) (list_flow way e) leads.lawful below)
-    flows_short most (mapped_by e bank) is few =
-        let below = flows_short most e is.0 few in
-        let leads = flow_leads way goes e is.0 in
-        by_signals_short most map_goes_by_signals (list_of (new way) e) (short_after most _ _ _ leads below) (signals_lead way goes bank is.1) _ _
+    flows_short most (mapped_by e bank) few =
+        let below = flows_short most e few in
+        let leads = flow_leads way goes e in
+        by_signals_short most map_goes_by_signals (list_of (new way) e) (short_after most _ _ _ leads below) (signals_lead way goes bank) _ _
         (map_leads (raised_by (signals_of (old way) bank)) (list_of (old way) e) (list_flow way e) (list_of (new way) e) leads)
         (map_short most (raised_by (signals_of (old way) bank)) (list_of (old way) e) (list_flow way e) leads.lawful below)
-    flows_short most (joined a b) is few =
-        halves_short (list_of (old way) a) (list_flow way a) (list_of (new way) a) (list_of (old way) b) (list_flow way b) (list_of (new way) b) (flow_leads way goes a is.0) (flow_leads way goes b is.1)
-        (vec_bound cap a) (vec_bound cap b) most few (flows_short (vec_bound cap a) a is.0 (omega arith)) (flows_short (vec_bound cap b) b is.1 (omega arith))
-    flows_short most (flattened e bank) is few =
+    flows_short most (joined a b) few =
+        halves_short (list_of (old way) a) (list_flow way a) (list_of (new way) a) (list_of (old way) b) (list_flow way b) (list_of (new way) b) (flow_leads way goes a) (flow_leads way goes b)
+        (vec_bound cap a) (vec_bound cap b) most few (flows_short (vec_bound cap a) a (omega arith)) (flows_short (vec_bound cap b) b (omega arith))
+    flows_short most (flattened e bank) few =
         short_for_more (vec_bound cap e * greatest_bound cap bank) most few _ _
-        (blocks_short (list_of (old way) e) (list_flow way e) (list_of (new way) e) (flow_leads way goes e is.0) (lists_of (old way) bank) (list_flows way bank) (lists_of (new way) bank)
-        (vec_bound cap e) (greatest_bound cap bank) (flows_short (vec_bound cap e) e is.0 (omega arith)) (lists_short (greatest_bound cap bank) bank is.1 (omega arith)))
-    flows_short most (picked e bank) is few =
-        pick_short most (value_of (old way) e) (value_flow way e) (value_of (new way) e) (lists_of (old way) bank) (list_flows way bank) (lists_of (new way) bank) (signal_leads way goes e is.0) (lists_short most bank is.1 few)
-    flows_short most (keys_in m) is few = of_map_short most keys_follow m few
-    flows_short most (values_in m) is few = of_map_short most values_follow m few
+        (blocks_short (list_of (old way) e) (list_flow way e) (list_of (new way) e) (flow_leads way goes e) (lists_of (old way) bank) (list_flows way bank) (lists_of (new way) bank)
+        (vec_bound cap e) (greatest_bound cap bank) (flows_short (vec_bound cap e) e (omega arith)) (lists_short (greatest_bound cap bank) bank (omega arith)))
+    flows_short most (picked e bank) few =
+        pick_short most (value_of (old way) e) (value_flow way e) (value_of (new way) e) (lists_of (old way) bank) (list_flows way bank) (lists_of (new way) bank) (signal_leads way goes e) (lists_short most bank few)
+    flows_short most (keys_in m) few = of_map_short most keys_follow m few
+    flows_short most (values_in m) few = of_map_short most values_follow m few
 
-    pub lists_short : (most : ℕ) (bank : VecTrees L) → AreListsBuilt bank → greatest_bound cap bank ≤ most → EachGoes (PartShort most) (lists_of (old way) bank) (list_flows way bank) (lists_of (new way) bank)
-    lists_short most no_lists is few = no_part
-    lists_short most (more_lists e bank) is few =
-        one_part (list_of (old way) e) (list_flow way e) (list_of (new way) e) (record { leads = flow_leads way goes e is.0; short = flows_short most e is.0 (omega (arith, few)) }) (lists_short most bank is.1 (omega (arith, few)))
+    pub lists_short : (most : ℕ) (bank : VecTrees L) → greatest_bound cap bank ≤ most → EachGoes (PartShort most) (lists_of (old way) bank) (list_flows way bank) (lists_of (new way) bank)
+    lists_short most no_lists few = no_part
+    lists_short most (more_lists e bank) few =
+        one_part (list_of (old way) e) (list_flow way e) (list_of (new way) e) (record { leads = flow_leads way goes e; short = flows_short most e (omega (arith, few)) }) (lists_short most bank (omega (arith, few)))
 
 -- ---- walks
 
@@ -251,13 +250,13 @@ module _ (s t : PortState) (old new : Progress) (can : CanWalk s old) (gone : Ha
     pub goes_within : (ops : ListOps) (most : ℕ) → vec_bound (cap_at (sources_in s old)) (list_tree ops) ≤ most →
         GoesShort most (list_of (contents_at (sources_in s old) old.positions) (list_tree ops)) (list_flow (ways (sources_in t new) old.positions new.positions) (list_tree ops))
     goes_within ops most few =
-        rw (← held_before s t old new can gone) (flows_short (ways (sources_in t new) old.positions new.positions) (never_back s t old new can gone goes_on) each_short each_map_short most (list_tree ops) (list_is_built ops) (rw same_caps few))
+        rw (← held_before s t old new can gone) (flows_short (ways (sources_in t new) old.positions new.positions) (never_back s t old new can gone goes_on) each_short each_map_short most (list_tree ops) (rw same_caps few))
 
     -- and so are the lists of a bank
     pub bank_within : (bank : ListsOps) (most : ℕ) → greatest_bound (cap_at (sources_in s old)) (list_trees bank) ≤ most →
         EachGoes (PartShort most) (lists_of (contents_at (sources_in s old) old.positions) (list_trees bank)) (list_flows (ways (sources_in t new) old.positions new.positions) (list_trees bank)) (lists_of (contents_at (sources_in t new) new.positions) (list_trees bank))
     bank_within bank most few =
-        rw (← held_before s t old new can gone) (lists_short (ways (sources_in t new) old.positions new.positions) (never_back s t old new can gone goes_on) each_short each_map_short most (list_trees bank) (lists_are_built bank) (rw same_caps few))
+        rw (← held_before s t old new can gone) (lists_short (ways (sources_in t new) old.positions new.positions) (never_back s t old new can gone goes_on) each_short each_map_short most (list_trees bank) (rw same_caps few))
 
     pub goes_short : (ops : ListOps) (most : ℕ) → vec_longest (cap_at (sources_in s old)) (list_tree ops) ≤ most →
         GoesShort most (list_of (contents_at (sources_in s old) old.positions) (list_tree ops)) (list_flow (ways (sources_in t new) old.positions new.positions) (list_tree ops))

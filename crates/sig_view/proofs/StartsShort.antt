@@ -10,12 +10,10 @@ use Rattle.sig_expr.specs.Trees.{VecTree, VecTrees, flattened, joined, picked}
 use Rattle.sig_expr.specs.declared.expressions.SigExpr.{SigExpr}
 use Rattle.sig_expr.specs.declared.expressions.VecExpr
 use Rattle.sig_expr.specs.declared.expressions.VecExpr.{VecExpr}
-use Rattle.sig_view.proofs.Numbering.{list_built, lists_built}
-use Rattle.sig_view.proofs.Shortening.{bound_within, flows_short}
-use Rattle.sig_view.specs.Built.{IsListBuilt}
-use Rattle.sig_view.specs.Flow.{Way}
+use Rattle.sig_expr.proofs.Bounded.{list_within}
+use Rattle.sig_view.proofs.Shortening.{bound_within}
 use Rattle.sig_view.specs.Longest.{vec_longest}
-use Rattle.sig_view.specs.Starting.{list_length}
+use Rattle.sig_view.specs.Starting.{leaf_length}
 
 -- expressions as trees
 pub concat_tree : (left right : VecExpr) → vec_tree (VecExpr.Concat left right) ≡ joined (vec_tree left) (vec_tree right)
@@ -31,20 +29,14 @@ pick_tree of bank = search (rules, VecExpr.the_lemmas)
 pub first_fits : (xs ys : List ℕ) (leaf count : ℕ) → leaf + length (xs ++ ys) ≤ count → leaf + length xs ≤ count
 first_fits xs ys leaf count room = omega (arith, room, length-append xs ys)
 
--- the way of a leaf that stands still
-abbrev standing : (ℕ → Content) → ℕ → Way
-standing s leaf = record { source = record { plan = record { start = s leaf; cap = list_length s leaf; allow = [] }; history = [] }; from = 0; to = 0 }
-
 module _ (s : ℕ → Content) where
-  list_short : (e : VecTree ℕ) → IsListBuilt e → vec_longest (list_length s) e ≤ 65536 → length (list_of s e) ≤ 65536
-  list_short e is few = (flows_short (standing s) (λ leaf. omega arith) (λ leaf. omega arith) 65536 e is (le_trans (bound_within (list_length s) e) few)).before
+  list_short : (e : VecTree ℕ) → vec_longest (leaf_length s) e ≤ 65536 → length (list_of s e) ≤ 65536
+  list_short e few = le_trans (list_within s (leaf_length s) (λ leaf. omega arith) (λ leaf. omega arith) e) (le_trans (bound_within (leaf_length s) e) few)
 
-  pub joined_short : (a b : VecTree ℕ) (leaf behind : ℕ) (lefts rights : List ℤ) → IsListBuilt (joined a b) → vec_longest (list_length s) (joined (number_vec a leaf) (number_vec b behind)) ≤ 65536 →
+  pub joined_short : (a b : VecTree ℕ) (leaf behind : ℕ) (lefts rights : List ℤ) → vec_longest (leaf_length s) (joined (number_vec a leaf) (number_vec b behind)) ≤ 65536 →
       lefts ≡ list_of s (number_vec a leaf) → rights ≡ list_of s (number_vec b behind) → length lefts + length rights ≤ 65536
-  joined_short a b leaf behind lefts rights is few left right =
-      rw (left, right, ← length-append) (list_short (joined (number_vec a leaf) (number_vec b behind)) (list_built a leaf is.0, list_built b behind is.1) few)
+  joined_short a b leaf behind lefts rights few left right = rw (left, right, ← length-append) (list_short (joined (number_vec a leaf) (number_vec b behind)) few)
 
-  pub flattened_short : (e : VecTree ℕ) (bank : VecTrees ℕ) (leaf behind : ℕ) (items : List ℤ) (lists : List (List ℤ)) → IsListBuilt (flattened e bank) → vec_longest (list_length s) (flattened (number_vec e leaf) (number_vecs bank behind)) ≤ 65536 →
+  pub flattened_short : (e : VecTree ℕ) (bank : VecTrees ℕ) (leaf behind : ℕ) (items : List ℤ) (lists : List (List ℤ)) → vec_longest (leaf_length s) (flattened (number_vec e leaf) (number_vecs bank behind)) ≤ 65536 →
       items ≡ list_of s (number_vec e leaf) → lists ≡ lists_of s (number_vecs bank behind) → length (flat_map (list_for lists) items) ≤ 65536
-  flattened_short e bank leaf behind items lists is few one others =
-      rw (one, others) (list_short (flattened (number_vec e leaf) (number_vecs bank behind)) (list_built e leaf is.0, lists_built bank behind is.1) few)
+  flattened_short e bank leaf behind items lists few one others = rw (one, others) (list_short (flattened (number_vec e leaf) (number_vecs bank behind)) few)

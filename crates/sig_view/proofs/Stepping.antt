@@ -12,7 +12,7 @@ use Rattle.sig_ops.specs.Enumerating.{Enumeration}
 use Rattle.sig_view.proofs.Leading.{BodyLeads, view_leads}
 use Rattle.sig_view.proofs.Still.{still_list}
 use Rattle.sig_view.proofs.Composing.{goes_ahead}
-use Rattle.sig_view.proofs.Numbering.{has_leaves as all_leaves, leaves_differ, numbered_built, view_short, within_caps}
+use Rattle.sig_view.proofs.Numbering.{has_leaves as all_leaves, leaves_differ, view_short, within_caps}
 use Rattle.sig_view.proofs.Staying.{same_contents, source_of_leaf}
 use Rattle.sig_view.specs.Flow.{GoesAhead, Way, flow, tags_after, with_tags}
 use Rattle.sig_view.specs.GoingOn.{HasLost, HasStepped, failed_now}
@@ -92,7 +92,7 @@ pub ready_again : (s t : PortState) (old : ViewTask) (walk : Progress) (stage : 
 ready_again s t old walk stage ready keeps first same_length can holds =
     let port = ready.port in
     record {
-      is_task = record { built = ready.is_task.built; short = ready.is_task.short; leaf_each = same_length ∙ ready.is_task.leaf_each };
+      is_task = record { short = ready.is_task.short; leaf_each = same_length ∙ ready.is_task.leaf_each };
       port = record {
         sound = can.sound;
         numbers = rw first port.numbers;
@@ -143,7 +143,7 @@ lost_later s t old new body stepped =
     let ready = stepped.ready in
     record {
       looked = stepped.looked;
-      ready = record { is_task = record { built = ready.is_task.built; short = ready.is_task.short; leaf_each = ready.is_task.leaf_each }; port = ready.port; can = ready.can; holds = tt };
+      ready = record { is_task = record { short = ready.is_task.short; leaf_each = ready.is_task.leaf_each }; port = ready.port; can = ready.can; holds = tt };
       same = record { view = stepped.same.view; caps = stepped.same.caps; first = stepped.same.first };
       failed = refl;
       row = refl;
@@ -184,7 +184,7 @@ module _ (s t : PortState) (old new : ViewTask) (body : Body) (ready : IsReady s
 
     leads : BodyLeads (ways (sources_of t new) (positions_of old) (positions_of new)) goes (view_of old) seen.shown seen.next
     leads = view_leads (ways (sources_of t new) (positions_of old) (positions_of new)) goes (view_of old) seen.shown seen.next
-        (numbered_built (view_tree old.view) ready.is_task.built) (record { kind = shows_it.kind; shows = rw before_is shows_it.shows; tags = shows_it.tags })
+        (record { kind = shows_it.kind; shows = rw before_is shows_it.shows; tags = shows_it.tags })
 
     body_is : body ≡ with_tags (tags_of seen) (flow (ways (sources_of t new) (positions_of old) (positions_of new)) (view_of old))
     body_is = rw same_tags stepped.flow_is

@@ -16,7 +16,7 @@ use Rattle.sig_hist.specs.Sources.{AreDistinct}
 use Rattle.sig_view.proofs.Along.{same_signals, same_value_flows}
 use Rattle.sig_view.proofs.ByClass.{SignalsGo, each_given, part_goes}
 use Rattle.sig_view.proofs.ByChooser.{as_many_signals, bank_apart, bank_holds, bank_way, both_walked, chooser_is, held, kept_signals, same_chooser, set_given, stays, still_stands, value_whole}
-use Rattle.sig_view.proofs.Carrying.{held_before, never_back, signals_are_built}
+use Rattle.sig_view.proofs.Carrying.{held_before, never_back}
 use Rattle.sig_view.proofs.Leading.{signals_lead}
 use Rattle.sig_view.specs.Choices.{after_choice}
 use Rattle.sig_view.specs.Flow.{value_flow, value_flows}
@@ -79,7 +79,7 @@ module _ (s t : PortState) (old mid : Progress) (can : CanWalk s old) (of after 
 
     goes_back : SignalsGo (signals_of came (signal_trees bank)) (value_flows (ways (sources_in u new) mid.positions new.positions) (signal_trees bank)) (signals_of ends (signal_trees bank))
     goes_back = rw (← held_before t u mid new first.gone.can second.gone)
-        (signals_lead (ways (sources_in u new) mid.positions new.positions) (never_back t u mid new first.gone.can second.gone second.walked.goes_on) (signal_trees bank) (signals_are_built bank))
+        (signals_lead (ways (sources_in u new) mid.positions new.positions) (never_back t u mid new first.gone.can second.gone second.walked.goes_on) (signal_trees bank))
 
     flows_are : value_flows (ways (sources_in u new) mid.positions new.positions) (signal_trees bank) ≡ value_flows (ways (sources_in u new) old.positions new.positions) (signal_trees bank)
     flows_are = same_value_flows _ _ (signal_trees bank) (bank_way s t old mid can of after value first _ has distinct u new second.gone part (sig_part_among ends (signal_trees bank) place) second.walked)

@@ -10,7 +10,7 @@ use Rattle.sig_hist.specs.Ports.{PortState}
 use Rattle.sig_ops.proofs.Sizing.{are_lawful_for_length, length_replayed, sizes_stay_within}
 use Rattle.sig_ops.specs.Signals.{given}
 use Rattle.sig_ops.specs.Sizes.{AreLawfulFor, SizesStayWithin, all_resized}
-use Rattle.sig_view.proofs.Carrying.{carries, held_before, never_back, signal_is_built}
+use Rattle.sig_view.proofs.Carrying.{carries, held_before, never_back}
 use Rattle.sig_view.proofs.Leading.{signal_leads}
 use Rattle.sig_view.proofs.Shortening.{carries_short}
 use Rattle.sig_view.proofs.Turning.{Leads}
@@ -30,7 +30,7 @@ module _ (s t : PortState) (old new : Progress) (can : CanWalk s old) (gone : Ha
 
     pub dedupe_stands : (next : ℤ) → next ≡ unwrap_or value last → SignalStands (contents_at (sources_in t new) new.positions) (without_repeats next after)
     dedupe_stands next is =
-        let leads = signal_leads (ways (sources_in t new) old.positions new.positions) (never_back s t old new can gone goes_on) (signal_tree below) (signal_is_built below) in
+        let leads = signal_leads (ways (sources_in t new) old.positions new.positions) (never_back s t old new can gone goes_on) (signal_tree below) in
         (rw (is, flow, stood.0, same, ← held_before s t old new can gone) (sym leads), stands)
 
   -- the list below a length or a total has stepped

@@ -145,7 +145,6 @@ module _ {L : Type 0} (way : L → Way) where
         ++ chosen (list_flows bank) (value_of new e) []
     list_flow (keys_in m) = of_map keys_gives (entries_of old m) (map_flow m)
     list_flow (values_in m) = of_map values_gives (entries_of old m) (map_flow m)
-    list_flow _ = []
 
     -- the value that a signal gives, where it gives one
     pub value_flow : SigTree L → Option ℤ

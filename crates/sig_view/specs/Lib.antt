@@ -1,6 +1,5 @@
 pub mod Flow
 pub mod SoundRows
-pub mod Built
 pub mod Choices
 pub mod Longest
 pub mod Walking

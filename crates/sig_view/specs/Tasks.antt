@@ -4,12 +4,11 @@ use Rattle.sig_diff.specs.declared.contents.Content.{Content}
 use Rattle.sig_expr.specs.Bounds.{cap_of}
 use Rattle.sig_expr.specs.Leaves.{leaves, numbered}
 use Rattle.sig_expr.specs.Shapes.{view_tree}
-use Rattle.sig_expr.specs.Trees.{ViewTree}
+use Rattle.sig_expr.specs.Trees.{ViewTree, map_source}
 use Rattle.sig_expr.specs.declared.expressions.View.{View}
 use Rattle.sig_hist.specs.Ports.{GoesOn, IsSoundPort, PortState}
 use Rattle.sig_hist.specs.Sources.{Source}
 use Rattle.sig_ops.specs.Enumerating.{Enumeration}
-use Rattle.sig_view.specs.Built.{IsBuilt}
 use Rattle.sig_view.specs.Fetching.{AreFetched}
 use Rattle.sig_view.specs.Longest.{longest}
 use Rattle.sig_view.specs.Nodes.{ViewOps, ViewStands, map, op_tags, view_ops, view_tree_of}
@@ -84,7 +83,7 @@ is_following task = following task.stage
 -- the operators of a stage after the first row
 abbrev pub ops_of : Stage → ViewOps
 ops_of (Following node) = view_ops node
-ops_of stage = map 0
+ops_of stage = map (map_source 0)
 
 -- the elements with their tags as its operators have them, where they have tags
 abbrev pub tags_at : ViewTask → Option Enumeration
@@ -126,7 +125,6 @@ Holds s view (Following node) = (view_tree_of (view_ops node) ≡ view) × ViewS
 Holds s view stage = Unit {0}
 
 pub record IsTask (task : ViewTask) : Type 0 where
-  pub built : IsBuilt (view_tree task.view)
   pub short : longest (cap_of task.caps.value) (view_tree task.view) ≤ 65536
   pub leaf_each : length (positions_of task) ≡ length (leaves (view_tree task.view))
 

@@ -6,7 +6,6 @@ ghost use Rattle.sig_expr.specs.Functions.{image};
 ghost use Rattle.sig_expr.specs.Leaves.{leaves, number_map, number_sig, number_sigs, number_vec, number_vecs, numbered, sig_leaves, sigs_leaves, vec_leaves, vecs_leaves};
 ghost use Rattle.sig_expr.specs.Shapes.{map_tree, sig_tree, sig_trees, vec_tree, vec_trees, view_tree};
 ghost use Rattle.sig_expr.specs.Trees.{mapped_values};
-ghost use Rattle.sig_view.specs.Built.{AreListsBuilt, AreSignalsBuilt, IsBuilt, IsListBuilt, IsSignalBuilt};
 ghost use Rattle.sig_view.specs.Fetching.{content_in};
 ghost use Rattle.sig_view.specs.Longest.{longest, sig_longest, sigs_longest, vec_longest, vecs_longest};
 ghost use Rattle.sig_ops.specs.Enumerating.{enumeration_of, tagged_from};
@@ -111,7 +110,6 @@ fn list_node(
     contents: &[Option<Content>],
     leaf: usize,
 ) -> Result<(ListNode, Items<i64>), NoMemory>
-    requires built { IsListBuilt (vec_tree list.now) }
     requires room { leaf + length (vec_leaves (vec_tree list.now)) ≤ length contents.now }
     requires short { vec_longest (leaf_length (content_in contents.now)) (number_vec (vec_tree list.now) leaf) ≤ 65536 }
     ensures started { IfOk result (λ made. IsListStarted (content_in contents.now) (number_vec (vec_tree list.now) leaf) (list_ops made.0) made.1) }
@@ -180,7 +178,6 @@ fn list_bank_nodes(
     contents: &[Option<Content>],
     leaf: usize,
 ) -> Result<(ListBank, Lists), NoMemory>
-    requires built { AreListsBuilt (vec_trees (map vec_tree bank.now)) }
     requires room { leaf + length (vecs_leaves (vec_trees (map vec_tree bank.now))) ≤ length contents.now }
     requires short { vecs_longest (leaf_length (content_in contents.now)) (number_vecs (vec_trees (map vec_tree bank.now)) leaf) ≤ 65536 }
     ensures started { IfOk result (λ made. AreListsStarted (content_in contents.now) (number_vecs (vec_trees (map vec_tree bank.now)) leaf) (lists_ops made.0) made.1) }
@@ -208,7 +205,6 @@ fn signal_node(
     contents: &[Option<Content>],
     leaf: usize,
 ) -> Result<(SignalNode, i64), NoMemory>
-    requires built { IsSignalBuilt (sig_tree signal.now) }
     requires room { leaf + length (sig_leaves (sig_tree signal.now)) ≤ length contents.now }
     requires short { sig_longest (leaf_length (content_in contents.now)) (number_sig (sig_tree signal.now) leaf) ≤ 65536 }
     ensures { IfOk result (λ made. IsSignalStarted (content_in contents.now) (number_sig (sig_tree signal.now) leaf) (signal_ops made.0) made.1) }
@@ -252,7 +248,6 @@ fn signal_bank_nodes(
     contents: &[Option<Content>],
     leaf: usize,
 ) -> Result<(SignalBank, Items<i64>), NoMemory>
-    requires built { AreSignalsBuilt (sig_trees (map sig_tree bank.now)) }
     requires room { leaf + length (sigs_leaves (sig_trees (map sig_tree bank.now))) ≤ length contents.now }
     requires short { sigs_longest (leaf_length (content_in contents.now)) (number_sigs (sig_trees (map sig_tree bank.now)) leaf) ≤ 65536 }
     ensures { IfOk result (λ made. AreSignalsStarted (content_in contents.now) (number_sigs (sig_trees (map sig_tree bank.now)) leaf) (signals_ops made.0) made.1) }
@@ -277,7 +272,6 @@ pub fn view_node(
     view: &View,
     contents: &[Option<Content>],
 ) -> Result<(ViewNode, Body), NoMemory>
-    requires built { IsBuilt (view_tree view.now) }
     requires room { length (leaves (view_tree view.now)) ≤ length contents.now }
     requires short { longest (leaf_length (content_in contents.now)) (numbered (view_tree view.now)) ≤ 65536 }
     ensures { IfOk result (λ made. IsViewStarted (content_in contents.now) (numbered (view_tree view.now)) (view_ops made.0) made.1) }

@@ -5,7 +5,6 @@ ghost use Rattle.sig_expr.specs.Leaves.{leaves};
 ghost use Rattle.sig_expr.specs.Shapes.{view_tree};
 ghost use Rattle.sig_hist.specs.Ports.{PortState};
 ghost use Rattle.sig_hist.specs.Sources.{AreDistinct};
-ghost use Rattle.sig_view.specs.Built.{IsBuilt};
 ghost use Rattle.sig_view.specs.Fetching.{at_start, content_in};
 ghost use Rattle.sig_view.specs.FirstPolls.{HasBegun};
 ghost use Rattle.sig_view.specs.Flow.{flow, tags_after, with_tags};
@@ -87,8 +86,7 @@ impl ViewTask {
         caps: &Caps,
         first_leaf: usize,
     ) -> Result<ViewTask, NoMemory>
-        requires built { IsBuilt (view_tree view) }
-        requires short { longest (cap_of caps.now) (view_tree view) ≤ 65536 }
+        requires { longest (cap_of caps.now) (view_tree view) ≤ 65536 }
         ensures { IfOk result (IsNew view caps.now first_leaf) }
     {
         let (walk, stage) = before_first(alloc, &view, first_leaf)?;
@@ -178,7 +176,6 @@ impl ViewTask {
     /// Gives the first row, where no leaf is missing.
     fn give_first<T: Drop>(&mut self, told: T) -> Polled<T>
         requires fetching { begun self.old.stage ≡ false }
-        requires built { IsBuilt (view_tree self.old.view) }
         requires short { longest (leaf_length (content_in (contents_got self.old.stage))) (view_of self.old) ≤ 65536 }
         requires room { length (leaves (view_tree self.old.view)) ≤ length (contents_got self.old.stage) }
         ensures poll { (s t : PortState) (old : ViewTask) → HasBegun s t old self.old → self.old.walk.held ≡ None → IsPoll s t old self.new told result }
@@ -202,7 +199,6 @@ impl ViewTask {
     /// The view's operators, started on what was fetched, and its first row.
     fn first_row(&self) -> Result<(ViewNode, Row), NoMemory>
         requires fetching { begun self.now.stage ≡ false }
-        requires built { IsBuilt (view_tree self.now.view) }
         requires short { longest (leaf_length (content_in (contents_got self.now.stage))) (view_of self.now) ≤ 65536 }
         requires room { length (leaves (view_tree self.now.view)) ≤ length (contents_got self.now.stage) }
         ensures at { IfOk result (λ made. made.1.at ≡ self.now.walk.positions) }

@@ -14,7 +14,7 @@ pub list_node-list_joined-requires : goal.list_node-list_joined-requires
 list_node-list_joined-requires t c =
     let tree = concat_tree c.in-Concat.left c.in-Concat.right in
     let right = rw (c.list_leaves-in-Concat.ensures, c.get-in-Concat.ensures, c.get-in-Concat-3.ensures) at c.in_ok-right-in-Concat.ensures.started.items_are in
-    record { short = joined_short (content_in c.args.contents.now) (vec_tree c.in-Concat.left) (vec_tree c.in-Concat.right) c.args.leaf (c.args.leaf + length (vec_leaves (vec_tree c.in-Concat.left))) _ _ (rw (c.in-Concat.is, tree) at c.requires.built) (rw (c.in-Concat.is, tree) at c.requires.short) (rw c.get-in-Concat-2.ensures at c.in_ok-left-in-Concat.ensures.started.items_are) right }
+    record { short = joined_short (content_in c.args.contents.now) (vec_tree c.in-Concat.left) (vec_tree c.in-Concat.right) c.args.leaf (c.args.leaf + length (vec_leaves (vec_tree c.in-Concat.left))) _ _ (rw (c.in-Concat.is, tree) at c.requires.short) (rw c.get-in-Concat-2.ensures at c.in_ok-left-in-Concat.ensures.started.items_are) right }
 
 pub list_node-list_leaves-requires-in-Flatten : goal.list_node-list_leaves-requires-in-Flatten
 list_node-list_leaves-requires-in-Flatten t c =
@@ -30,7 +30,7 @@ pub list_node-list_flattened-requires : goal.list_node-list_flattened-requires
 list_node-list_flattened-requires t c =
     let tree = flatten_tree c.in-Flatten.of c.in-Flatten.bank in
     let bank = rw (c.list_leaves-in-Flatten.ensures, c.get-in-Flatten.ensures, c.as_slice-in-Flatten.ensures) at c.in_ok-bank-in-Flatten.ensures.started.lists_are in
-    record { short = flattened_short (content_in c.args.contents.now) (vec_tree c.in-Flatten.of) (vec_trees (map vec_tree c.in-Flatten.bank)) c.args.leaf (c.args.leaf + length (vec_leaves (vec_tree c.in-Flatten.of))) _ _ (rw (c.in-Flatten.is, tree) at c.requires.built) (rw (c.in-Flatten.is, tree) at c.requires.short) (rw c.get-in-Flatten-2.ensures at c.in_ok-of-in-Flatten.ensures.started.items_are) bank }
+    record { short = flattened_short (content_in c.args.contents.now) (vec_tree c.in-Flatten.of) (vec_trees (map vec_tree c.in-Flatten.bank)) c.args.leaf (c.args.leaf + length (vec_leaves (vec_tree c.in-Flatten.of))) _ _ (rw (c.in-Flatten.is, tree) at c.requires.short) (rw c.get-in-Flatten-2.ensures at c.in_ok-of-in-Flatten.ensures.started.items_are) bank }
 
 pub list_node-signal_leaves-requires : goal.list_node-signal_leaves-requires
 list_node-signal_leaves-requires t c =
@@ -65,27 +65,25 @@ signal_node-map_node-requires t c =
 pub list_bank_nodes-bank-preserved : goal.list_bank_nodes-bank-preserved
 list_bank_nodes-bank-preserved t c =
     let here = rw (drop_more c.args.bank.now c.bank.list-index c.list-item.result (omega arith), ← c.list-item.is) at c.bank.invariant in (
-      here.0.1,
       omega (arith, c.list_leaves.ensures, length-append {A = ℕ}),
       rw c.list_leaves.ensures (omega arith),
       grind (arith, common_steps),
-      rw (c.in_ok-push.ensures.items, c.in_ok-push-2.ensures.ok) (one_more_list _ _ _ _ c.bank.place _ c.bank.nodes.items c.bank.lists _ _ c.list_leaves.ensures c.in_ok-node.ensures.started here.4),
+      rw (c.in_ok-push.ensures.items, c.in_ok-push-2.ensures.ok) (one_more_list _ _ _ _ c.bank.place _ c.bank.nodes.items c.bank.lists _ _ c.list_leaves.ensures c.in_ok-node.ensures.started here.3),
     )
 
 pub list_bank_nodes-returns-clause-started : goal.list_bank_nodes-returns-clause-started
 list_bank_nodes-returns-clause-started t c =
-    all_lists _ _ c.bank.nodes.items c.bank.lists _ c.in_ok-list_bank.ensures (rw (drop_all c.bank.list-index c.args.bank.now (omega arith)) at c.bank.invariant).4
+    all_lists _ _ c.bank.nodes.items c.bank.lists _ c.in_ok-list_bank.ensures (rw (drop_all c.bank.list-index c.args.bank.now (omega arith)) at c.bank.invariant).3
 
 pub signal_bank_nodes-bank-preserved : goal.signal_bank_nodes-bank-preserved
 signal_bank_nodes-bank-preserved t c =
     let here = rw (drop_more c.args.bank.now c.bank.signal-index c.signal-item.result (omega arith), ← c.signal-item.is) at c.bank.invariant in
     let same : to_z w64 (of_z w64 c.in_ok-node.value) ≡ c.in_ok-node.value = search rules in (
-      here.0.1,
       omega (arith, c.signal_leaves.ensures, length-append {A = ℕ}),
       rw c.signal_leaves.ensures (omega arith),
-      rw (c.in_ok-push.ensures.items, c.in_ok-push-2.ensures.ok, same) (one_more_signal _ _ _ _ c.bank.place _ c.bank.nodes.items c.bank.values _ _ c.signal_leaves.ensures c.in_ok-node.ensures here.3),
+      rw (c.in_ok-push.ensures.items, c.in_ok-push-2.ensures.ok, same) (one_more_signal _ _ _ _ c.bank.place _ c.bank.nodes.items c.bank.values _ _ c.signal_leaves.ensures c.in_ok-node.ensures here.2),
     )
 
 pub signal_bank_nodes-returns : goal.signal_bank_nodes-returns
 signal_bank_nodes-returns t c =
-    all_signals _ _ c.bank.nodes.items c.bank.values _ c.in_ok-signal_bank.ensures (rw (drop_all c.bank.signal-index c.args.bank.now (omega arith)) at c.bank.invariant).3
+    all_signals _ _ c.bank.nodes.items c.bank.values _ c.in_ok-signal_bank.ensures (rw (drop_all c.bank.signal-index c.args.bank.now (omega arith)) at c.bank.invariant).2
