@@ -81,10 +81,22 @@ allow_at writers number zero (source ∷ sources) within = let same : number ≡
 allow_at writers number (suc place) (source ∷ sources) within =
     let same : number + 1 + place ≡ number + suc place = omega arith in allow_at writers (number + 1) place sources (omega arith) ∙ ap (λ (at : ℕ). allowances at 0 writers) same
 
-start_at : (writers : List WriterDef) (number : ℕ) (sources : List SourceDef) → All (λ (source : SourceDef). IsInOrder source.start) sources → (place : ℕ) → IsInOrder (get_or (source_plans writers number sources) place no_source.plan).start
-start_at writers number [] in_order place = tt
-start_at writers number (source ∷ sources) in_order zero = All-head (λ (source : SourceDef). IsInOrder source.start) source sources in_order
-start_at writers number (source ∷ sources) in_order (suc place) = start_at writers (number + 1) sources (All-tail (λ (source : SourceDef). IsInOrder source.start) source sources in_order) place
+abbrev StartInOrder : List SourcePlan → Type 0
+StartInOrder plans = (place : ℕ) → IsInOrder (get_or plans place no_source.plan).start
+
+-- a share's cell is in order
+shares_in_order : (caller : ℕ) (rooms : List ℕ) (shares : List ShareDef) → StartInOrder (share_plans caller rooms shares)
+shares_in_order caller rooms [] place = tt
+shares_in_order caller rooms (share ∷ shares) zero = tt
+shares_in_order caller rooms (share ∷ shares) (suc place) = shares_in_order (caller + 1) _ shares place
+
+sources_in_order : (writers : List WriterDef) (number : ℕ) (sources : List SourceDef) (later : List SourcePlan) → All (λ (source : SourceDef). IsInOrder source.start) sources → StartInOrder later → StartInOrder (source_plans writers number sources ++ later)
+sources_in_order writers number [] later in_order rest place = rest place
+sources_in_order writers number (source ∷ sources) later in_order rest zero = All-head (λ (source : SourceDef). IsInOrder source.start) source sources in_order
+sources_in_order writers number (source ∷ sources) later in_order rest (suc place) = sources_in_order writers (number + 1) sources later (All-tail (λ (source : SourceDef). IsInOrder source.start) source sources in_order) rest place
+
+pub plan_in_order : (script : Script) → StartsInOrder script → (number : ℕ) → IsInOrder (plan_at script number).start
+plan_in_order script in_order = sources_in_order script.writers 0 script.sources _ in_order (shares_in_order _ _ script.shares)
 
 pub no_edits_past : (script : Script) (writer : ℕ) → length script.writers ≤ writer → edits_of script writer ≡ []
 no_edits_past script writer past = ap (λ (one : WriterDef). one.edits) (get_or_past script.writers writer no_writer past)
@@ -94,9 +106,6 @@ module _ (script : Script) (unshared : script.shares ≡ []) where
   plans_are =
       let plans : List SourcePlan = source_plans script.writers 0 script.sources in
       ap (λ (shares : List ShareDef). plans ++ share_plans (length script.writers) (source_rooms script.writers 0 script.sources) shares) unshared ∙ append-nil plans
-
-  pub plan_in_order : StartsInOrder script → (number : ℕ) → IsInOrder (plan_at script number).start
-  plan_in_order in_order number = rw plans_are (start_at script.writers 0 script.sources in_order number)
 
   pub length_plans_of : length (plans_of script) ≡ length script.sources
   length_plans_of = ap length plans_are ∙ length_plans script.writers 0 script.sources

@@ -121,7 +121,7 @@ module _ (script : Script) (all_built : unbuilt script ≡ None) (no_leaves : ha
 
   module _ (in_order : StartsInOrder script) where
     in_order_at_last : AllInOrder written_out.sources
-    in_order_at_last number = rw (writing.goes.play.made number).plan (plan_in_order script (no_shares script all_built) in_order number)
+    in_order_at_last number = rw (writing.goes.play.made number).plan (plan_in_order script in_order number)
 
     seen_at_last : AllSeen script all_built written_out.sources written_out
     seen_at_last =
