@@ -14,7 +14,7 @@ use Rattle.sig_view.proofs.Leading.{flow_leads}
 use Rattle.sig_view.proofs.Staying.{same_contents}
 use Rattle.sig_view.proofs.Turning.{Leads}
 use Rattle.sig_view.specs.Flow.{GoesAhead, list_flow, through}
-use Rattle.sig_view.specs.Nodes.{ListOps, source, images, kept, ordered, let_in, raised, pick_of, keys_by, values_by, SignalOps, number, image_of, without_repeats, switch_of, count_of, sum_of, value_at_key, SignalsOps, no_signal, one_signal, ListsOps, no_list, one_list, ListStands, list_tree, list_trees, signal_tree, signal_trees, halves_of, blocks_of}
+use Rattle.sig_view.specs.Nodes.{ListOps, kept, ListStands, list_tree}
 use Rattle.sig_view.specs.SoundRows.{GoOn, contents_at, ways}
 use Rattle.sig_view.specs.Walking.{CanWalk, HasGone, Progress, seen_sources, sources_in}
 

@@ -185,7 +185,6 @@ module _ {L : Type 0} (way : L → Way) (goes : (leaf : L) → GoesAhead (way le
         pick_leads (value_of (old way) e) (value_flow way e) (value_of (new way) e) (lists_of (old way) bank) (list_flows way bank) (lists_of (new way) bank) (signal_leads e) (lists_lead bank)
     flow_leads (keys_in m) = of_map_flow_leads keys_follow m
     flow_leads (values_in m) = of_map_flow_leads values_follow m
-    flow_leads _ = absurd is
 
     -- a signal
     pub signal_leads : (e : SigTree L) → value_of (new way) e ≡ unwrap_or (value_flow way e) (value_of (old way) e)

@@ -1,7 +1,6 @@
 -- A walk over all leaves after the first row, as a part of a poll.
 use Rattle.std.specs.Prelude.{◌≡◌, ℕ, ◌<◌, ◌+◌, slice_index, true, false, None, Some}
 use Rattle.sig_expr.specs.Awaited.{awaits}
-use Rattle.sig_expr.specs.Trees.{map_source}
 use Rattle.sig_hist.specs.Ports.{PortState}
 use Rattle.sig_view.specs.Flow.{flow, tags_after, with_tags}
 use Rattle.sig_view.specs.Polling.{IsSameTask}

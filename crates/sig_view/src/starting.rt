@@ -1,9 +1,12 @@
-ghost use Rattle.std.specs.Prelude.{◌≡◌, ◌∷◌, [], ◌≤◌, ◌<◌, ◌+◌, Some, length, map, IfOk};
-ghost use Rattle.std.specs.List.{All};
+ghost use Rattle.std.specs.Prelude.{ℕ, ◌≡◌, ◌∷◌, [], ◌≤◌, ◌<◌, ◌+◌, Some, length, map, IfOk};
+ghost use Rattle.std.specs.List.{All, flat_map};
 ghost use Rattle.sig_diff.specs.Contents.{number_in, list_in, entries_in};
 ghost use Rattle.sig_diff.specs.Entries.{values_mapped};
 ghost use Rattle.sig_expr.specs.Functions.{image};
 ghost use Rattle.sig_expr.specs.Leaves.{leaves, number_map, number_sig, number_sigs, number_vec, number_vecs, numbered, sig_leaves, sigs_leaves, vec_leaves, vecs_leaves};
+ghost use Rattle.sig_diff.specs.Choosing.{list_for};
+ghost use Rattle.sig_expr.specs.Scratch.{list_of, lists_of};
+ghost use Rattle.sig_expr.specs.Trees.{VecTree, flattened, joined};
 ghost use Rattle.sig_expr.specs.Shapes.{map_tree, sig_tree, sig_trees, vec_tree, vec_trees, view_tree};
 ghost use Rattle.sig_expr.specs.Trees.{mapped_values};
 ghost use Rattle.sig_view.specs.Fetching.{content_in};
@@ -118,56 +121,94 @@ fn list_node(
     match list {
         VecExpr::Vector(_) => Ok((ListNode::Source(leaf), list_at(alloc, contents, leaf)?)),
         VecExpr::Map(fun, of) => {
-            let (of, items) = list_node(alloc, of.get(), contents, leaf)?;
-            list_mapped(alloc, *fun, of, items)
+            let of = list_node(alloc, of.get(), contents, leaf)?;
+            list_mapped(alloc, *fun, of)
         }
         VecExpr::Filter(pred, of) => {
-            let (of, items) = list_node(alloc, of.get(), contents, leaf)?;
-            list_filtered(alloc, *pred, of, items)
+            let of = list_node(alloc, of.get(), contents, leaf)?;
+            list_filtered(alloc, *pred, of)
         }
         VecExpr::Sorted(fun, of) => {
-            let (of, items) = list_node(alloc, of.get(), contents, leaf)?;
-            list_sorted(alloc, *fun, of, items)
+            let of = list_node(alloc, of.get(), contents, leaf)?;
+            list_sorted(alloc, *fun, of)
         }
         VecExpr::FilterBy(of, bank) => {
             let behind = leaf + list_leaves(of.get());
-            let (of, items) = list_node(alloc, of.get(), contents, leaf)?;
-            let (bank, values) = signal_bank_nodes(alloc, bank.as_slice(), contents, behind)?;
-            list_filtered_by(alloc, of, items, bank, values)
+            let of = list_node(alloc, of.get(), contents, leaf)?;
+            let bank = signal_bank_nodes(alloc, bank.as_slice(), contents, behind)?;
+            list_filtered_by(alloc, of, bank)
         }
         VecExpr::MapBy(of, bank) => {
             let behind = leaf + list_leaves(of.get());
-            let (of, items) = list_node(alloc, of.get(), contents, leaf)?;
-            let (bank, values) = signal_bank_nodes(alloc, bank.as_slice(), contents, behind)?;
-            list_mapped_by(alloc, of, items, bank, values)
+            let of = list_node(alloc, of.get(), contents, leaf)?;
+            let bank = signal_bank_nodes(alloc, bank.as_slice(), contents, behind)?;
+            list_mapped_by(alloc, of, bank)
         }
         VecExpr::Concat(left, right) => {
             let behind = leaf + list_leaves(left.get());
-            let (left, lefts) = list_node(alloc, left.get(), contents, leaf)?;
-            let (right, rights) = list_node(alloc, right.get(), contents, behind)?;
-            list_joined(alloc, left, lefts, right, rights)
+            let left = list_node(alloc, left.get(), contents, leaf)?;
+            list_concat(alloc, left, right.get(), contents, behind)
         }
         VecExpr::Flatten(of, bank) => {
             let behind = leaf + list_leaves(of.get());
-            let (of, items) = list_node(alloc, of.get(), contents, leaf)?;
-            let (bank, parts) = list_bank_nodes(alloc, bank.as_slice(), contents, behind)?;
-            list_flattened(alloc, of, items, bank, parts)
+            let of = list_node(alloc, of.get(), contents, leaf)?;
+            list_flatten(alloc, of, bank.as_slice(), contents, behind)
         }
         VecExpr::Pick(of, bank) => {
             let behind = leaf + signal_leaves(of.get());
-            let (of, chooser) = signal_node(alloc, of.get(), contents, leaf)?;
-            let (bank, lists) = list_bank_nodes(alloc, bank.as_slice(), contents, behind)?;
-            list_picked(alloc, of, chooser, bank, lists)
+            let of = signal_node(alloc, of.get(), contents, leaf)?;
+            let bank = list_bank_nodes(alloc, bank.as_slice(), contents, behind)?;
+            list_picked(alloc, of, bank)
         }
         VecExpr::Keys(of) => {
-            let (of, entries) = map_node(alloc, of.get(), contents, leaf)?;
-            list_keys(alloc, of, entries)
+            let of = map_node(alloc, of.get(), contents, leaf)?;
+            list_keys(alloc, of)
         }
         VecExpr::Values(of) => {
-            let (of, entries) = map_node(alloc, of.get(), contents, leaf)?;
-            list_values(alloc, of, entries)
+            let of = map_node(alloc, of.get(), contents, leaf)?;
+            list_values(alloc, of)
         }
     }
+}
+
+/// A list that is started, and behind it another.
+#[cycle(start)]
+fn list_concat(
+    alloc: Global,
+    left: (ListNode, Items<i64>),
+    right: &VecExpr,
+    contents: &[Option<Content>],
+    leaf: usize,
+) -> Result<(ListNode, Items<i64>), NoMemory>
+    requires room { leaf + length (vec_leaves (vec_tree right.now)) ≤ length contents.now }
+    requires short { vec_longest (leaf_length (content_in contents.now)) (number_vec (vec_tree right.now) leaf) ≤ 65536 }
+    requires short_both { length left.1 + length (list_of (content_in contents.now) (number_vec (vec_tree right.now) leaf)) ≤ 65536 }
+    ensures started { (tree : VecTree ℕ) → IsListStarted (content_in contents.now) tree (list_ops left.0) left.1
+        → IfOk result (λ made. IsListStarted (content_in contents.now) (joined tree (number_vec (vec_tree right.now) leaf)) (list_ops made.0) made.1) }
+    ensures short { IfOk result (λ made. length made.1 ≤ 65536) }
+{
+    let right = list_node(alloc, right, contents, leaf)?;
+    list_joined(alloc, left, right)
+}
+
+/// For each element of a list that is started the whole list of a bank that it chooses.
+#[cycle(start)]
+fn list_flatten(
+    alloc: Global,
+    of: (ListNode, Items<i64>),
+    parts: &[VecExpr],
+    contents: &[Option<Content>],
+    leaf: usize,
+) -> Result<(ListNode, Items<i64>), NoMemory>
+    requires room { leaf + length (vecs_leaves (vec_trees (map vec_tree parts.now))) ≤ length contents.now }
+    requires short { vecs_longest (leaf_length (content_in contents.now)) (number_vecs (vec_trees (map vec_tree parts.now)) leaf) ≤ 65536 }
+    requires short_blocks { length (flat_map (list_for (lists_of (content_in contents.now) (number_vecs (vec_trees (map vec_tree parts.now)) leaf))) of.1) ≤ 65536 }
+    ensures started { (tree : VecTree ℕ) → IsListStarted (content_in contents.now) tree (list_ops of.0) of.1
+        → IfOk result (λ made. IsListStarted (content_in contents.now) (flattened tree (number_vecs (vec_trees (map vec_tree parts.now)) leaf)) (list_ops made.0) made.1) }
+    ensures short { IfOk result (λ made. length made.1 ≤ 65536) }
+{
+    let bank = list_bank_nodes(alloc, parts, contents, leaf)?;
+    list_flattened(alloc, of, bank)
 }
 
 /// The operators of a bank's lists, started on what their leaves hold, and the lists.

@@ -21,14 +21,14 @@ use std::alloc::Global;
 pub fn list_mapped(
     alloc: Global,
     fun: Fun,
-    of: ListNode,
-    items: Items<i64>,
+    of: (ListNode, Items<i64>),
 ) -> Result<(ListNode, Items<i64>), NoMemory>
-    requires short { length items ≤ 65536 }
-    ensures ops { IfOk result (λ made. list_ops made.0 ≡ images fun (list_ops of)) }
-    ensures items { IfOk result (λ made. made.1 ≡ map (image fun) items) }
+    requires short { length of.1 ≤ 65536 }
+    ensures ops { IfOk result (λ made. list_ops made.0 ≡ images fun (list_ops of.0)) }
+    ensures items { IfOk result (λ made. made.1 ≡ map (image fun) of.1) }
     ensures short { IfOk result (λ made. length made.1 ≤ 65536) }
 {
+    let (of, items) = of;
     let mut op = MapOp::new(alloc, fun);
     let images = op.start(&items)?;
     Ok((ListNode::Map(op, Box::new(alloc, of)?), images))
@@ -39,14 +39,14 @@ pub fn list_mapped(
 pub fn list_filtered(
     alloc: Global,
     pred: Pred,
-    of: ListNode,
-    items: Items<i64>,
+    of: (ListNode, Items<i64>),
 ) -> Result<(ListNode, Items<i64>), NoMemory>
-    requires short { length items ≤ 65536 }
-    ensures ops { IfOk result (λ made. list_ops made.0 ≡ kept (record { tester = pred; items = items }) (list_ops of)) }
-    ensures items { IfOk result (λ made. made.1 ≡ filter (passes pred) items) }
+    requires short { length of.1 ≤ 65536 }
+    ensures ops { IfOk result (λ made. list_ops made.0 ≡ kept (record { tester = pred; items = of.1 }) (list_ops of.0)) }
+    ensures items { IfOk result (λ made. made.1 ≡ filter (passes pred) of.1) }
     ensures short { IfOk result (λ made. length made.1 ≤ 65536) }
 {
+    let (of, items) = of;
     let mut op = FilterOp::new(alloc, pred);
     let kept = op.start(&items)?;
     Ok((ListNode::Filter(op, Box::new(alloc, of)?), kept))
@@ -57,14 +57,14 @@ pub fn list_filtered(
 pub fn list_sorted(
     alloc: Global,
     fun: Fun,
-    of: ListNode,
-    items: Items<i64>,
+    of: (ListNode, Items<i64>),
 ) -> Result<(ListNode, Items<i64>), NoMemory>
-    requires short { length items ≤ 65536 }
-    ensures ops { IfOk result (λ made. list_ops made.0 ≡ ordered (sorted_of (image fun) fun items) (list_ops of)) }
-    ensures items { IfOk result (λ made. made.1 ≡ in_order (by_key (image fun)) items) }
+    requires short { length of.1 ≤ 65536 }
+    ensures ops { IfOk result (λ made. list_ops made.0 ≡ ordered (sorted_of (image fun) fun of.1) (list_ops of.0)) }
+    ensures items { IfOk result (λ made. made.1 ≡ in_order (by_key (image fun)) of.1) }
     ensures short { IfOk result (λ made. length made.1 ≤ 65536) }
 {
+    let (of, items) = of;
     let mut op = SortedOp::new(alloc, fun);
     let sorted = op.start(&items)?;
     Ok((ListNode::Sorted(op, Box::new(alloc, of)?), sorted))
@@ -74,16 +74,16 @@ pub fn list_sorted(
 #[tactic(auto, using(sig_expr::proofs::Bounded::length_filter_within))]
 pub fn list_filtered_by(
     alloc: Global,
-    of: ListNode,
-    items: Items<i64>,
-    bank: SignalBank,
-    values: Items<i64>,
+    of: (ListNode, Items<i64>),
+    bank: (SignalBank, Items<i64>),
 ) -> Result<(ListNode, Items<i64>), NoMemory>
-    requires short { length items ≤ 65536 }
-    ensures ops { IfOk result (λ made. list_ops made.0 ≡ let_in (record { items = items; signals = values }) (list_ops of) (signals_ops bank)) }
-    ensures items { IfOk result (λ made. made.1 ≡ filter (is_let_in values) items) }
+    requires short { length of.1 ≤ 65536 }
+    ensures ops { IfOk result (λ made. list_ops made.0 ≡ let_in (record { items = of.1; signals = bank.1 }) (list_ops of.0) (signals_ops bank.0)) }
+    ensures items { IfOk result (λ made. made.1 ≡ filter (is_let_in bank.1) of.1) }
     ensures short { IfOk result (λ made. length made.1 ≤ 65536) }
 {
+    let (bank, values) = bank;
+    let (of, items) = of;
     let mut op = FilterBy::new(alloc);
     let kept = op.start(&items, &values)?;
     let of = Box::new(alloc, of)?;
@@ -93,16 +93,16 @@ pub fn list_filtered_by(
 /// The items of a list, each plus its signal.
 pub fn list_mapped_by(
     alloc: Global,
-    of: ListNode,
-    items: Items<i64>,
-    bank: SignalBank,
-    values: Items<i64>,
+    of: (ListNode, Items<i64>),
+    bank: (SignalBank, Items<i64>),
 ) -> Result<(ListNode, Items<i64>), NoMemory>
-    requires short { length items ≤ 65536 }
-    ensures ops { IfOk result (λ made. list_ops made.0 ≡ raised (record { items = items; signals = values }) (list_ops of) (signals_ops bank)) }
-    ensures items { IfOk result (λ made. made.1 ≡ map (raised_by values) items) }
+    requires short { length of.1 ≤ 65536 }
+    ensures ops { IfOk result (λ made. list_ops made.0 ≡ raised (record { items = of.1; signals = bank.1 }) (list_ops of.0) (signals_ops bank.0)) }
+    ensures items { IfOk result (λ made. made.1 ≡ map (raised_by bank.1) of.1) }
     ensures short { IfOk result (λ made. length made.1 ≤ 65536) }
 {
+    let (bank, values) = bank;
+    let (of, items) = of;
     let mut op = MapBy::new(alloc);
     let sums = op.start(&items, &values)?;
     let of = Box::new(alloc, of)?;
@@ -112,16 +112,16 @@ pub fn list_mapped_by(
 /// The list of a bank that a signal chooses.
 pub fn list_picked(
     alloc: Global,
-    of: SignalNode,
-    chooser: i64,
-    bank: ListBank,
-    lists: Lists,
+    of: (SignalNode, i64),
+    bank: (ListBank, Lists),
 ) -> Result<(ListNode, Items<i64>), NoMemory>
-    requires short { All (λ items. length items ≤ 65536) lists }
-    ensures ops { IfOk result (λ made. list_ops made.0 ≡ pick_of (record { chooser = chooser; parts = lists }) (signal_ops of) (lists_ops bank)) }
-    ensures items { IfOk result (λ made. made.1 ≡ list_for lists chooser) }
+    requires short { All (λ items. length items ≤ 65536) bank.1 }
+    ensures ops { IfOk result (λ made. list_ops made.0 ≡ pick_of (record { chooser = of.1; parts = bank.1 }) (signal_ops of.0) (lists_ops bank.0)) }
+    ensures items { IfOk result (λ made. made.1 ≡ list_for bank.1 of.1) }
     ensures short { IfOk result (λ made. length made.1 ≤ 65536) }
 {
+    let (bank, lists) = bank;
+    let (of, chooser) = of;
     let mut op = Pick::new(alloc);
     let chosen = op.start(chooser, &lists)?;
     let of = Box::new(alloc, of)?;
@@ -131,16 +131,16 @@ pub fn list_picked(
 /// Two lists, one behind the other.
 pub fn list_joined(
     alloc: Global,
-    left: ListNode,
-    lefts: Items<i64>,
-    right: ListNode,
-    rights: Items<i64>,
+    left: (ListNode, Items<i64>),
+    right: (ListNode, Items<i64>),
 ) -> Result<(ListNode, Items<i64>), NoMemory>
-    requires short { length lefts + length rights ≤ 65536 }
-    ensures ops { IfOk result (λ made. list_ops made.0 ≡ halves_of (record { left = length lefts; right = length rights }) (list_ops left) (list_ops right)) }
-    ensures items { IfOk result (λ made. made.1 ≡ lefts ++ rights) }
+    requires short { length left.1 + length right.1 ≤ 65536 }
+    ensures ops { IfOk result (λ made. list_ops made.0 ≡ halves_of (record { left = length left.1; right = length right.1 }) (list_ops left.0) (list_ops right.0)) }
+    ensures items { IfOk result (λ made. made.1 ≡ left.1 ++ right.1) }
     ensures short { IfOk result (λ made. length made.1 ≤ 65536) }
 {
+    let (right, rights) = right;
+    let (left, lefts) = left;
     let mut op = Concat::new(alloc);
     let both = op.start(&lefts, &rights)?;
     let left = Box::new(alloc, left)?;
@@ -150,16 +150,16 @@ pub fn list_joined(
 /// For each element of a list the whole list of a bank that it chooses.
 pub fn list_flattened(
     alloc: Global,
-    of: ListNode,
-    items: Items<i64>,
-    bank: ListBank,
-    lists: Lists,
+    of: (ListNode, Items<i64>),
+    bank: (ListBank, Lists),
 ) -> Result<(ListNode, Items<i64>), NoMemory>
-    requires short { length (flat_map (list_for lists) items) ≤ 65536 }
-    ensures ops { IfOk result (λ made. list_ops made.0 ≡ blocks_of (record { outer = items; parts = lists }) (list_ops of) (lists_ops bank)) }
-    ensures items { IfOk result (λ made. made.1 ≡ flat_map (list_for lists) items) }
+    requires short { length (flat_map (list_for bank.1) of.1) ≤ 65536 }
+    ensures ops { IfOk result (λ made. list_ops made.0 ≡ blocks_of (record { outer = of.1; parts = bank.1 }) (list_ops of.0) (lists_ops bank.0)) }
+    ensures items { IfOk result (λ made. made.1 ≡ flat_map (list_for bank.1) of.1) }
     ensures short { IfOk result (λ made. length made.1 ≤ 65536) }
 {
+    let (bank, lists) = bank;
+    let (of, items) = of;
     let mut op = Flatten::new(alloc);
     let blocks = op.start(&items, &lists)?;
     let of = Box::new(alloc, of)?;
@@ -169,14 +169,14 @@ pub fn list_flattened(
 /// The keys of a map.
 pub fn list_keys(
     alloc: Global,
-    of: MapNode,
-    entries: Entries<i64>,
+    of: (MapNode, Entries<i64>),
 ) -> Result<(ListNode, Items<i64>), NoMemory>
-    requires short { length entries ≤ 65536 }
-    ensures ops { IfOk result (λ made. list_ops made.0 ≡ keys_by entries (map_ops of)) }
-    ensures items { IfOk result (λ made. made.1 ≡ keys_of entries) }
+    requires short { length of.1 ≤ 65536 }
+    ensures ops { IfOk result (λ made. list_ops made.0 ≡ keys_by of.1 (map_ops of.0)) }
+    ensures items { IfOk result (λ made. made.1 ≡ keys_of of.1) }
     ensures short { IfOk result (λ made. length made.1 ≤ 65536) }
 {
+    let (of, entries) = of;
     let mut op = KeysOp::new(alloc);
     let keys = op.start(&entries)?;
     Ok((ListNode::Keys(op, of), keys))
@@ -185,14 +185,14 @@ pub fn list_keys(
 /// The values of a map.
 pub fn list_values(
     alloc: Global,
-    of: MapNode,
-    entries: Entries<i64>,
+    of: (MapNode, Entries<i64>),
 ) -> Result<(ListNode, Items<i64>), NoMemory>
-    requires short { length entries ≤ 65536 }
-    ensures ops { IfOk result (λ made. list_ops made.0 ≡ values_by entries (map_ops of)) }
-    ensures items { IfOk result (λ made. made.1 ≡ values_of entries) }
+    requires short { length of.1 ≤ 65536 }
+    ensures ops { IfOk result (λ made. list_ops made.0 ≡ values_by of.1 (map_ops of.0)) }
+    ensures items { IfOk result (λ made. made.1 ≡ values_of of.1) }
     ensures short { IfOk result (λ made. length made.1 ≤ 65536) }
 {
+    let (of, entries) = of;
     let mut op = ValuesOp::new(alloc);
     let values = op.start(&entries)?;
     Ok((ListNode::Values(op, of), values))

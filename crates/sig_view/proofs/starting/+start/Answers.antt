@@ -1,20 +1,34 @@
-use Rattle.std.proofs.Common.{◌≡◌, ℕ, ◌+◌, length, map, arith, length-append, of_z, rules, to_z, w64}
+use Rattle.std.proofs.Common.{◌≡◌, ℕ, ◌+◌, ◌≤◌, length, map, arith, length-append, of_z, rules, to_z, w64}
 use Rattle.std.proofs.lemmas.Grind.{common_steps}
 use Rattle.std.proofs.lemmas.List.{drop_all, drop_more}
 use Rattle.sig_expr.specs.Leaves.{sig_leaves, vec_leaves, vecs_leaves}
 use Rattle.sig_expr.specs.Shapes.{sig_tree, vec_tree, vec_trees}
 use Rattle.sig_view.proofs.BankStarts.{all_lists, all_signals, one_more_list, one_more_signal}
 use Rattle.sig_expr.specs.Shapes.{map_tree}
+use Rattle.sig_expr.specs.declared.expressions.VecExpr
 use Rattle.sig_view.proofs.MapStarts.{key_is, keys_is, leaf_within, started_few, values_is}
-use Rattle.sig_view.proofs.StartsShort.{concat_tree, first_fits, flatten_tree, flattened_short, joined_short, pick_tree}
+use Rattle.sig_view.proofs.StartsShort.{concat_needs, concat_tree, first_fits, flatten_needs, flatten_tree, pick_tree}
 use Rattle.sig_view.specs.Fetching.{content_in}
+use Rattle.sig_view.specs.Longest.{vec_longest, vecs_longest}
+use Rattle.sig_view.specs.Starting.{leaf_length}
+use Rattle.sig_diff.specs.Choosing.{list_for}
+use Rattle.sig_expr.specs.Scratch.{list_of, lists_of}
+use Rattle.sig_expr.specs.Trees.{VecTree, VecTrees}
+use Rattle.std.specs.List.{flat_map}
+use Rattle.sig_expr.specs.Leaves.{number_vec, number_vecs}
 use Rattle.sig_view.proofs.starting.+start.Goals as goal
 
-pub list_node-list_joined-requires : goal.list_node-list_joined-requires
-list_node-list_joined-requires t c =
+pub list_node-list_concat-requires : goal.list_node-list_concat-requires
+list_node-list_concat-requires t c =
     let tree = concat_tree c.in-Concat.left c.in-Concat.right in
-    let right = rw (c.list_leaves-in-Concat.ensures, c.get-in-Concat.ensures, c.get-in-Concat-3.ensures) at c.in_ok-right-in-Concat.ensures.started.items_are in
-    record { short = joined_short (content_in c.args.contents.now) (vec_tree c.in-Concat.left) (vec_tree c.in-Concat.right) c.args.leaf (c.args.leaf + length (vec_leaves (vec_tree c.in-Concat.left))) _ _ (rw (c.in-Concat.is, tree) at c.requires.short) (rw c.get-in-Concat-2.ensures at c.in_ok-left-in-Concat.ensures.started.items_are) right }
+    let needs = concat_needs (content_in c.args.contents.now) (vec_tree c.in-Concat.left) (vec_tree c.in-Concat.right) c.args.leaf (length c.args.contents.now) c.in_ok-left-in-Concat.left.1
+    (rw (c.in-Concat.is, tree) at c.requires.room) (rw (c.in-Concat.is, tree) at c.requires.short) (rw c.get-in-Concat-2.ensures at c.in_ok-left-in-Concat.ensures.started.items_are) in
+    let s = content_in c.args.contents.now in
+    let right : VecTree ℕ = vec_tree c.get-in-Concat-3.result.now in
+    let behind : ℕ = c.args.leaf + c.list_leaves-in-Concat.result in
+    let there : (behind + length (vec_leaves right) ≤ length c.args.contents.now) × (vec_longest (leaf_length s) (number_vec right behind) ≤ 65536) × (length c.in_ok-left-in-Concat.left.1 + length (list_of s (number_vec right behind)) ≤ 65536) =
+    rw (c.get-in-Concat-3.ensures, c.list_leaves-in-Concat.ensures, c.get-in-Concat.ensures) needs in
+    (search (rules, VecExpr.the_lemmas, c.decreases, c.in-Concat.is, c.get-in-Concat-3.ensures), search (rules, there))
 
 pub list_node-list_leaves-requires-in-Flatten : goal.list_node-list_leaves-requires-in-Flatten
 list_node-list_leaves-requires-in-Flatten t c =
@@ -26,11 +40,17 @@ list_node-overflow_add-behind-in-Flatten t c =
     let room = first_fits (vec_leaves (vec_tree c.in-Flatten.of)) (vecs_leaves (vec_trees (map vec_tree c.in-Flatten.bank))) c.args.leaf _ (rw (c.in-Flatten.is, flatten_tree c.in-Flatten.of c.in-Flatten.bank) at c.requires.room) in
     rw (c.list_leaves-in-Flatten.ensures, c.get-in-Flatten.ensures) (search (rules, room))
 
-pub list_node-list_flattened-requires : goal.list_node-list_flattened-requires
-list_node-list_flattened-requires t c =
+pub list_node-list_flatten-requires : goal.list_node-list_flatten-requires
+list_node-list_flatten-requires t c =
     let tree = flatten_tree c.in-Flatten.of c.in-Flatten.bank in
-    let bank = rw (c.list_leaves-in-Flatten.ensures, c.get-in-Flatten.ensures, c.as_slice-in-Flatten.ensures) at c.in_ok-bank-in-Flatten.ensures.started.lists_are in
-    record { short = flattened_short (content_in c.args.contents.now) (vec_tree c.in-Flatten.of) (vec_trees (map vec_tree c.in-Flatten.bank)) c.args.leaf (c.args.leaf + length (vec_leaves (vec_tree c.in-Flatten.of))) _ _ (rw (c.in-Flatten.is, tree) at c.requires.short) (rw c.get-in-Flatten-2.ensures at c.in_ok-of-in-Flatten.ensures.started.items_are) bank }
+    let needs = flatten_needs (content_in c.args.contents.now) (vec_tree c.in-Flatten.of) (vec_trees (map vec_tree c.in-Flatten.bank)) c.args.leaf (length c.args.contents.now) c.in_ok-of-in-Flatten.of.1
+    (rw (c.in-Flatten.is, tree) at c.requires.room) (rw (c.in-Flatten.is, tree) at c.requires.short) (rw c.get-in-Flatten-2.ensures at c.in_ok-of-in-Flatten.ensures.started.items_are) in
+    let s = content_in c.args.contents.now in
+    let parts : VecTrees ℕ = vec_trees (map vec_tree c.as_slice-in-Flatten.result.now) in
+    let behind : ℕ = c.args.leaf + c.list_leaves-in-Flatten.result in
+    let there : (behind + length (vecs_leaves parts) ≤ length c.args.contents.now) × (vecs_longest (leaf_length s) (number_vecs parts behind) ≤ 65536) × (length (flat_map (list_for (lists_of s (number_vecs parts behind))) c.in_ok-of-in-Flatten.of.1) ≤ 65536) =
+    rw (c.as_slice-in-Flatten.ensures, c.list_leaves-in-Flatten.ensures, c.get-in-Flatten.ensures) needs in
+    (search (rules, VecExpr.the_lemmas, c.decreases, c.in-Flatten.is, c.as_slice-in-Flatten.ensures), search (rules, there))
 
 pub list_node-signal_leaves-requires : goal.list_node-signal_leaves-requires
 list_node-signal_leaves-requires t c =
