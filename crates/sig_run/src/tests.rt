@@ -350,7 +350,10 @@ fn a_list_that_can_get_too_big_is_refused(rt: HostRuntime) -> Result<(), Fail> {
 fn the_longest_list_is_played(rt: HostRuntime) -> Result<(), Fail> {
     let text = flattening(rt.alloc(), 256)?;
     let mut page = Page::new(rt.alloc(), 1 << 20, 1 << 16, Vec::new(rt.alloc()))?;
-    assert_eq!(rt; run(&rt, rt.alloc(), &["play"], text.as_str(), 0, &mut page)?, 0);
+    assert_eq!(rt;
+        run(&rt, rt.alloc(), &["play"], text.as_str(), 0, &mut page)?,
+        0
+    );
     Ok(())
 }
 

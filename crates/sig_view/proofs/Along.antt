@@ -90,7 +90,7 @@ module _ {L : Type 0} (way other : L → Way) where
   same_map_flow (map_source leaf) alike = rw (alike.0.before, alike.0.cap, alike.0.passed) refl
   same_map_flow (mapped_values f m) alike = ap (flat_map (map_value_gives (image f))) (same_map_flow m alike)
 
-  old_map : (m : MapTree L) → AlikeOn (map_leaves m) → entries_of (old way) m ≡ entries_of (old other) m
+  pub old_map : (m : MapTree L) → AlikeOn (map_leaves m) → entries_of (old way) m ≡ entries_of (old other) m
   old_map m alike = map_same (old way) (old other) m (agree_before (map_leaves m) alike)
 
   new_map : (m : MapTree L) → AlikeOn (map_leaves m) → entries_of (new way) m ≡ entries_of (new other) m
