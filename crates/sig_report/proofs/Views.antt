@@ -1,13 +1,12 @@
 -- A poll of one of the views.
-use Rattle.std.proofs.Common.{◌≡◌, ◌∙◌, ℕ, zero, suc, ◌+◌, ◌<◌, ◌==◌, List, [], ◌∷◌, ◌++◌, length, map, get_or, if◌then◌else◌, codes, decimal, Bool, true, false, Option, None, Some, refl, sym, ap, arith}
+use Rattle.std.proofs.Common.{◌≡◌, ◌∙◌, ℕ, zero, suc, ◌==◌, List, [], ◌∷◌, ◌++◌, length, map, get_or, codes, Bool, true, false, Option, None, Some, refl, sym, ap}
 use Rattle.std.proofs.lemmas.Bool.{eqb-true}
 use Rattle.std.proofs.lemmas.List.{length-map, nil_from_length}
 use Rattle.std.specs.Option.{option_or}
 use Rattle.sig_expr.specs.Leaves.{leaves, numbered}
-use Rattle.sig_expr.specs.Shapes.{map_tree, sig_tree, vec_tree, view_tree}
-use Rattle.sig_expr.specs.Trees.{MapTree, map_source, SigTree, cell, mapped_signal, deduped, switched, length_of, total_of, VecTree, vector, mapped, filtered, filtered_by, mapped_by, sorted, picked, SigTrees, no_signals, more_signals, VecTrees, no_lists, more_lists}
+use Rattle.sig_expr.specs.Shapes.{view_tree}
 use Rattle.sig_expr.specs.declared.expressions.View.{View}
-use Rattle.sig_expr.specs.declared.expressions.View.TheVariants.{Map, Signal, Vector}
+use Rattle.sig_expr.specs.declared.expressions.View.TheVariants.{Signal}
 use Rattle.sig_hist.specs.Changes.{IsInOrder}
 use Rattle.sig_hist.specs.Histories.{is_closed}
 use Rattle.sig_hist.specs.OneThread.{no_source}

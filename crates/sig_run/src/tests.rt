@@ -323,12 +323,12 @@ fn a_row_catches_up_with_more_entries_at_once(rt: HostRuntime) -> Result<(), Fai
 }
 
 /// A script that flattens 256 elements over a list of so many.
-fn flattening(alloc: Global, count: usize) -> Result<String, AllocError> {
+fn flattening(alloc: Global, count: u32) -> Result<String, Fail> {
     let outer = repeated(alloc, 256, "0", ",")?;
     let bank = repeated(alloc, count, "1", ",")?;
-    format!(in alloc;
+    Ok(format!(in alloc;
         "{{\"version\":1,\"sources\":[{{\"name\":\"o\",\"vector\":[{outer}]}},{{\"name\":\"b\",\"vector\":[{bank}]}}],\"writers\":[],\"views\":[{{\"name\":\"v\",\"vector\":{{\"flatten\":{{\"vector\":\"o\"}},\"bank\":[{{\"vector\":\"b\"}}]}}}}]}}"
-    )
+    )?)
 }
 
 #[test]

@@ -49,7 +49,7 @@ const CELL: &str = r#"[{"name":"c","cell":1},{"name":"a","vector":[]}]"#;
 const VIEW: &str = r#"[{"name":"f","vector":{"vector":"a"}}]"#;
 
 /// Sources, writers, views, and the number and path of the refusal.
-const REFUSED: [(&str, &str, &str, u32, &str); 43] = [
+const REFUSED: [(&str, &str, &str, u32, &str); 36] = [
     (
         r#"[{"name":"a","vector":[1.5]}]"#,
         "[]",
