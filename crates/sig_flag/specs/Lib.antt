@@ -1,0 +1,4 @@
+pub mod Accounts
+pub mod Machines
+pub mod Told
+pub mod Words
