@@ -1,0 +1,5 @@
+mod Fronts
+mod Laid
+mod Looks
+mod Shown
+mod Stepping

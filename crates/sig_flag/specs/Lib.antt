@@ -1,4 +1,5 @@
 pub mod Accounts
 pub mod Machines
+pub mod Plays
 pub mod Told
 pub mod Words

@@ -3,8 +3,10 @@ ghost use Rattle.sig_flag.specs.Accounts.{known, after_look, after_give};
 ghost use Rattle.sig_flag.specs.Machines.{account, Sits, IsSameSeat, HasNoTurn, HasTurn, Has, IsShown, IsTake, MayGive, IsShape, IsMade, AreBack, IsEnd};
 
 use crate::accounts::Account;
+use crate::plays::Look;
 use crate::rule::{FlagKey, ToldRule};
 use crate::shape::FlagShape;
+use crate::words::version_in;
 use atomic_table::{Seat, Table};
 use sig_diff::{Items, NoMemory};
 use sig_hist::{Kept, Version};
@@ -72,7 +74,7 @@ impl<V: Kept> Flags<V> {
         ensures account { Has seat.new (after_look (account seat.old) source result.count) seat.old.me.1 }
         ensures shown { IsShown (known (account seat.old) source) result }
     {
-        unreachable!()
+        version_in(self.table.shared.load::<Look>(seat, source))
     }
 
     /// Tries to get the source's turn, and with it the source's state. All of the history is seen then.

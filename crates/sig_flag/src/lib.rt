@@ -4,8 +4,10 @@
 
 mod accounts;
 mod flags;
+mod plays;
 mod rule;
 mod shape;
+mod words;
 
 pub use accounts::{Account, Hold, Knowledge, Watch};
 pub use flags::{FlagSeat, FlagSeats, Flags, ReadyList, States, Taken};

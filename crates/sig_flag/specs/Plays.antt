@@ -1,0 +1,22 @@
+-- What each step on a table tells its seat. A step's word is the source's number.
+use Rattle.std.specs.Prelude.{◌≡◌, ◌<◌, ◌/◌, ◌^◌, ℕ, List, [], ◌∷◌, Bool, true, false, Option, Some}
+use Rattle.atomic_table.specs.Table.{Me, Step}
+use Rattle.sig_flag.specs.Accounts.{account_of, known, after_look, after_turn, after_held, after_give}
+use Rattle.sig_flag.specs.Machines.{IsShown, IsMet}
+use Rattle.sig_flag.specs.Words.{version_in, is_held}
+use Rattle.sig_flag.specs.declared.accounts.Account.{Account}
+use Rattle.sig_hist.specs.declared.edits.Entry.{Entry}
+use Rattle.sig_hist.specs.declared.plans.SourcePlan.{SourcePlan}
+
+abbrev pub Seated : Type 0 → Type 0
+Seated V = Me (Option V) (List Account)
+
+module _ {V : Type 0} where
+  -- a seat has one account, and these slots
+  abbrev pub Stands : Seated V → Account → List (ℕ × Option V) → Type 0
+  Stands me account slots = me ≡ (account ∷ [], slots)
+
+  pub record IsLook (step : Step (Option V)) (old : Seated V) (word : ℕ) (new : Seated V) : Type 0 where
+    pub short : word / 4 < 2 ^ 32
+    pub has : Stands new (after_look (account_of old.0) step.word (word / 4)) old.1
+    pub shown : IsShown (known (account_of old.0) step.word) (version_in word)
