@@ -3,3 +3,4 @@ mod Laid
 mod Looks
 mod Shown
 mod Stepping
+mod Takes

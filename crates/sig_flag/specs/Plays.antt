@@ -20,3 +20,10 @@ module _ {V : Type 0} where
     pub short : word / 4 < 2 ^ 32
     pub has : Stands new (after_look (account_of old.0) step.word (word / 4)) old.1
     pub shown : IsShown (known (account_of old.0) step.word) (version_in word)
+
+module _ {V : Type 0} (plan_of : V → SourcePlan) (history_of : V → List Entry) where
+  -- what a take tells, by whether it found the word held
+  pub record IsTaking (step : Step (Option V)) (old : Seated V) (word : ℕ) (new : Seated V) : Type 0 where
+    pub held : is_held word ≡ true → Stands new (after_held (account_of old.0) step.word word) old.1
+    pub turn : is_held word ≡ false → (state : V) × IsMet plan_of history_of (account_of old.0).number (known (account_of old.0) step.word) state
+        × Stands new (after_turn (account_of old.0) step.word (history_of state)) ((step.word, Some state) ∷ old.1)

@@ -3,10 +3,10 @@ ghost use Rattle.sig_flag.specs.Accounts.{known, after_look, after_give};
 ghost use Rattle.sig_flag.specs.Machines.{account, Sits, IsSameSeat, HasNoTurn, HasTurn, Has, IsShown, IsTake, MayGive, IsShape, IsMade, AreBack, IsEnd};
 
 use crate::accounts::Account;
-use crate::plays::Look;
+use crate::plays::{Look, Take};
 use crate::rule::{FlagKey, ToldRule};
 use crate::shape::FlagShape;
-use crate::words::version_in;
+use crate::words::{is_held, version_in};
 use atomic_table::{Seat, Table};
 use sig_diff::{Items, NoMemory};
 use sig_hist::{Kept, Version};
@@ -85,7 +85,8 @@ impl<V: Kept> Flags<V> {
         ensures seat { IsSameSeat seat.old seat.new }
         ensures taken { IsTake V.plan V.history seat.old seat.new source result }
     {
-        unreachable!()
+        let word = self.table.shared.fetch_or::<Take<V>>(seat, source, 1);
+        if is_held(word) { Taken::Held { word } } else { Taken::Turn }
     }
 
     /// Takes the state out of the slot of the source whose turn the seat has.

@@ -1,11 +1,21 @@
 //! What each step tells. These types are for the proofs alone.
-ghost use Rattle.sig_flag.specs.Plays.{IsLook};
+ghost use Rattle.sig_flag.specs.Plays.{IsLook, IsTaking};
 
 use crate::accounts::Account;
 use atomic_table::Play;
+use sig_hist::Kept;
+use std::marker::PhantomData;
 
 pub struct Look;
 
 impl<V> Play<Option<V>, [Account; 0]> for Look {
     ghost then = { IsLook };
+}
+
+pub struct Take<V> {
+    state: PhantomData<V>,
+}
+
+impl<V: Kept> Play<Option<V>, [Account; 0]> for Take<V> {
+    ghost then = { IsTaking V.plan V.history };
 }
