@@ -1,6 +1,7 @@
 -- The machine that a call sees is that of the table inside it.
-use Rattle.std.proofs.Common.{◌≡◌, ◌∙◌, ℕ, ◌<◌, List, length, map, Option, sym, ap, subst, arith}
+use Rattle.std.proofs.Common.{◌≡◌, ◌∙◌, ℕ, ◌<◌, List, [], ◌∷◌, length, map, Option, sym, ap, subst, arith}
 use Rattle.std.proofs.lemmas.List.{length-map}
+use Rattle.atomic_table.specs.Table.{rest}
 use Rattle.atomic_table.specs.Seated.{TableId}
 use Rattle.atomic_table.specs.declared.shared.Seat.{Seat}
 use Rattle.sig_flag.specs.Machines.{Machine, IsLaid, Sits}
@@ -26,3 +27,7 @@ module _ {V : Type 0} where
       let plan : source < length (map plan_of states) = subst (λ (m : Machine). source < length m.plans) (sym is) within in
       let all = length-map states plan_of in
       record { plan = plan; word = omega (arith, laid.of_words); slot = omega (arith, laid.of_slots) }
+
+-- the one slot that a seat has is the one that it took last
+pub has_slot : {X : Type 0} (slots : List (ℕ × X)) (source : ℕ) (x : X) → slots ≡ (source, x) ∷ [] → slots ≡ (source, x) ∷ rest slots
+has_slot {X} slots source x is = is ∙ ap (λ (others : List (ℕ × X)). (source, x) ∷ others) (sym (ap rest is))

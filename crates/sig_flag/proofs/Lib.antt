@@ -1,4 +1,5 @@
 mod Fronts
+mod Gives
 mod Laid
 mod Looks
 mod Shown

@@ -27,3 +27,7 @@ module _ {V : Type 0} (plan_of : V → SourcePlan) (history_of : V → List Entr
     pub held : is_held word ≡ true → Stands new (after_held (account_of old.0) step.word word) old.1
     pub turn : is_held word ≡ false → (state : V) × IsMet plan_of history_of (account_of old.0).number (known (account_of old.0) step.word) state
         × Stands new (after_turn (account_of old.0) step.word (history_of state)) ((step.word, Some state) ∷ old.1)
+
+  -- the turn is back, with the state that was in the slot
+  pub record IsGiving (step : Step (Option V)) (old : Seated V) (word : ℕ) (new : Seated V) : Type 0 where
+    pub has : (state : V) → old.1 ≡ (step.word, Some state) ∷ [] → Stands new (after_give (account_of old.0) step.word (history_of state)) []

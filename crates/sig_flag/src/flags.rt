@@ -3,10 +3,10 @@ ghost use Rattle.sig_flag.specs.Accounts.{known, after_look, after_give};
 ghost use Rattle.sig_flag.specs.Machines.{account, Sits, IsSameSeat, HasNoTurn, HasTurn, Has, IsShown, IsTake, MayGive, IsShape, IsMade, AreBack, IsEnd};
 
 use crate::accounts::Account;
-use crate::plays::{Look, Take};
+use crate::plays::{Give, Look, Take};
 use crate::rule::{FlagKey, ToldRule};
 use crate::shape::FlagShape;
-use crate::words::{is_held, version_in};
+use crate::words::{is_held, version_in, word_of};
 use atomic_table::{Seat, Table};
 use sig_diff::{Items, NoMemory};
 use sig_hist::{Kept, Version};
@@ -97,7 +97,10 @@ impl<V: Kept> Flags<V> {
         ensures state { HasTurn seat.old source (Some result) }
         ensures account { Has seat.new (account seat.old) ((source, None) ∷ []) }
     {
-        unreachable!()
+        match self.table.shared.exchange(seat, source, None) {
+            Some(state) => state,
+            None => unreachable!(),
+        }
     }
 
     /// Puts a state into the slot of the source whose turn the seat has.
@@ -107,7 +110,7 @@ impl<V: Kept> Flags<V> {
         ensures seat { IsSameSeat seat.old seat.new }
         ensures account { Has seat.new (account seat.old) ((source, Some state) ∷ []) }
     {
-        unreachable!()
+        drop(self.table.shared.exchange(seat, source, Some(state)));
     }
 
     /// Gives the turn back, and with it the state in the slot, which is as it was or has one entry more, by this seat.
@@ -118,7 +121,8 @@ impl<V: Kept> Flags<V> {
         ensures seat { IsSameSeat seat.old seat.new }
         ensures account { (state : V) → HasTurn seat.old source (Some state) → Has seat.new (after_give (account seat.old) source (V.history state)) [] }
     {
-        unreachable!()
+        let word = word_of(count, closed);
+        self.table.shared.store::<Give<V>>(seat, source, word);
     }
 
     /// The states of all sources, once all seats are back and none has a turn. It takes no memory.

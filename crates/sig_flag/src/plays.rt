@@ -1,5 +1,5 @@
 //! What each step tells. These types are for the proofs alone.
-ghost use Rattle.sig_flag.specs.Plays.{IsLook, IsTaking};
+ghost use Rattle.sig_flag.specs.Plays.{IsLook, IsTaking, IsGiving};
 
 use crate::accounts::Account;
 use atomic_table::Play;
@@ -18,4 +18,12 @@ pub struct Take<V> {
 
 impl<V: Kept> Play<Option<V>, [Account; 0]> for Take<V> {
     ghost then = { IsTaking V.plan V.history };
+}
+
+pub struct Give<V> {
+    state: PhantomData<V>,
+}
+
+impl<V: Kept> Play<Option<V>, [Account; 0]> for Give<V> {
+    ghost then = { IsGiving V.plan V.history };
 }
