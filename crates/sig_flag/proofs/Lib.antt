@@ -2,6 +2,8 @@ mod Fronts
 mod Gives
 mod Laid
 mod Looks
+mod Opens
+mod Peels
 mod Shown
 mod Stepping
 mod Takes

@@ -4,6 +4,7 @@
 
 mod accounts;
 mod flags;
+mod opening;
 mod plays;
 mod rule;
 mod shape;
