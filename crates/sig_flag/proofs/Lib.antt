@@ -1,4 +1,6 @@
+mod Empties
 mod Fronts
+mod Gathers
 mod Gives
 mod Laid
 mod Looks

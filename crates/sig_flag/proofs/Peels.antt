@@ -102,7 +102,7 @@ peels plan_of history_of plans seats id view first others is =
 
 -- ---- the loop
 
-pushed_at : {X : Type 0} (xs : List X) (x y : X) (k : ℕ) → slice_get (xs ++ x ∷ []) k ≡ Some y → (slice_get xs k ≡ Some y) ⊎ ((k ≡ length xs) × (x ≡ y))
+pub pushed_at : {X : Type 0} (xs : List X) (x y : X) (k : ℕ) → slice_get (xs ++ x ∷ []) k ≡ Some y → (slice_get xs k ≡ Some y) ⊎ ((k ≡ length xs) × (x ≡ y))
 pushed_at [] x y zero is = inr (refl, cc)
 pushed_at [] x y (suc k) is = absurd (cc)
 pushed_at (first ∷ xs) x y zero is = inl is

@@ -1,4 +1,5 @@
 pub mod Accounts
+pub mod Closing
 pub mod Machines
 pub mod Opening
 pub mod Plays

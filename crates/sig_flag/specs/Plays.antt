@@ -1,5 +1,5 @@
 -- What each step on a table tells its seat. A step's word is the source's number.
-use Rattle.std.specs.Prelude.{◌≡◌, ◌<◌, ◌/◌, ◌^◌, ℕ, List, [], ◌∷◌, slice_get, true, false, Option, Some}
+use Rattle.std.specs.Prelude.{◌≡◌, ◌<◌, ◌/◌, ◌^◌, ℕ, List, [], ◌∷◌, ◌++◌, slice_get, true, false, Option, Some}
 use Rattle.atomic_table.specs.Seated.{TableId}
 use Rattle.atomic_table.specs.Table.{Me, Step}
 use Rattle.atomic_table.specs.declared.shared.Seat.{Seat}
@@ -23,6 +23,13 @@ first_alone (account ∷ accounts) = account ∷ []
 abbrev pub all_others : List Account → List Account
 all_others [] = []
 all_others (account ∷ accounts) = accounts
+
+-- another seat's accounts go in front of one's own
+abbrev pub with_others : List Account → List Account → List Account
+with_others accounts others = others ++ accounts
+
+abbrev pub no_account : List Account
+no_account = []
 
 -- the seat that has the accounts of this number and above, and the seats that were made before it
 module _ {V : Type 0} (id : TableId) (plans : List SourcePlan) where

@@ -3,6 +3,7 @@ ghost use Rattle.sig_flag.specs.Accounts.{known, after_look, after_give};
 ghost use Rattle.sig_flag.specs.Machines.{account, Sits, IsSameSeat, HasNoTurn, HasTurn, Has, IsShown, IsTake, MayGive, IsShape, IsMade, AreBack, IsEnd};
 
 use crate::accounts::Account;
+use crate::closing::{shut, take_all};
 use crate::opening::{deal, open};
 use crate::plays::{Give, Look, Take};
 use crate::rule::{FlagKey, ToldRule};
@@ -142,6 +143,9 @@ impl<V: Kept> Flags<V> {
         ensures states { IsEnd V.plan V.history self seats result.0 }
         ensures ready { result.1 ≡ [] }
     {
-        unreachable!()
+        let Flags { table, room } = self;
+        let ready = Items::new(*room.allocator());
+        let closed = shut(table, seats);
+        (Items::from_vec(take_all(closed, room)), ready)
     }
 }

@@ -3,6 +3,7 @@
 #![tactic(auto)]
 
 mod accounts;
+mod closing;
 mod flags;
 mod opening;
 mod plays;

@@ -1,8 +1,8 @@
 //! What each step tells. These types are for the proofs alone.
-ghost use Rattle.sig_flag.specs.Plays.{IsLook, IsTaking, IsGiving, first_alone, all_others};
+ghost use Rattle.sig_flag.specs.Plays.{IsLook, IsTaking, IsGiving, first_alone, all_others, with_others, no_account};
 
 use crate::accounts::Account;
-use atomic_table::{Play, Split};
+use atomic_table::{Join, Play, Split};
 use sig_hist::Kept;
 use std::marker::PhantomData;
 
@@ -35,4 +35,13 @@ impl Split<[Account; 0]> for Peel {
     ghost left = { all_others };
 
     ghost right = { first_alone };
+}
+
+/// The accounts of another seat join those of a seat.
+pub struct Gather;
+
+impl Join<[Account; 0]> for Gather {
+    ghost both = { with_others };
+
+    ghost spent = { no_account };
 }
