@@ -1,6 +1,6 @@
 -- The accounts of all seats come to one seat.
-use Rattle.std.proofs.Common.{◌≡◌, ◌∙◌, ℕ, zero, suc, ◌+◌, ◌<◌, ◌≢◌, ◌==◌, ◌⊎◌, ⊎_elim, inl, inr, List, [], ◌∷◌, ◌++◌, length, map, get_or, set, cond, Bool, Option, None, Some, All, refl, sym, ap, subst, eq-eqb, ne_eqb, append_assoc, arith}
-use Rattle.std.proofs.lemmas.List.{length_push, get_or_append_left, get_or_push, map-append}
+use Rattle.std.proofs.Common.{◌≡◌, ◌∙◌, ℕ, zero, suc, ◌+◌, ◌-◌, ◌<◌, ◌≢◌, ◌==◌, ◌⊎◌, ⊎_elim, inl, inr, List, [], ◌∷◌, ◌++◌, length, take, map, get_or, set, cond, Bool, Option, None, Some, All, refl, sym, ap, subst, eq-eqb, ne_eqb, append_assoc, arith}
+use Rattle.std.proofs.lemmas.List.{length_push, length-append, length-take, get_or_append_left, get_or_push, map-append}
 use mathlib.Core.Option as slot
 use mathlib.Core.Option.{some-injective, some-ne-none}
 use lib.ListN.{get_elem?}
@@ -120,7 +120,7 @@ gathers plan_of history_of plans seats id own other others s told at_id differen
 front_holds : {X : Type 0} (P : X → Type 0) (xs : List X) (x : X) → All P (xs ++ x ∷ []) → All P xs
 front_holds P xs x holds = λ k d within. let longer = length_push xs x in subst P (get_or_append_left xs (x ∷ []) d k within) (holds k d (omega arith))
 
-last_holds : {X : Type 0} (P : X → Type 0) (xs : List X) (x : X) → All P (xs ++ x ∷ []) → P x
+pub last_holds : {X : Type 0} (P : X → Type 0) (xs : List X) (x : X) → All P (xs ++ x ∷ []) → P x
 last_holds P xs x holds = let longer = length_push xs x in subst P (get_or_push xs x x (length xs) refl) (holds (length xs) x (omega arith))
 
 -- the accounts of these seats went to the first one, and those of the others are still to come
@@ -147,3 +147,17 @@ module _ {V : Type 0} (id : TableId) (all : List (Seat (Option V) (List Account)
             ∙ ap (λ (l : List Account). l ++ now.me.0) (sym (map-append account fewer (seat ∷ [])) ∙ ap (map account) (sym seats_are))
             ∙ is.accounts;
       }
+
+-- the view of the last seat, to which the accounts of the others came
+pub view_of_all : {V : Type 0} (id : TableId) (all fewer : List (Seat (Option V) (List Account))) (first : Seat (Option V) (List Account)) (view : List Account) → All (Rests id) all → all ≡ fewer ++ first ∷ [] →
+    view ≡ map account fewer ++ first.me.0 → view ≡ map account all
+view_of_all {V} id all fewer first view rest all_is view_is =
+    let has = (last_holds (Rests id) fewer first (subst (All (Rests id)) all_is rest)).has in
+    view_is ∙ ap (λ (m : List Account × List (ℕ × Option V)). map account fewer ++ m.0) has ∙ sym (map-append account fewer (first ∷ [])) ∙ ap (map account) (sym all_is)
+
+pub none_left : {X : Type 0} (xs fewer : List X) → xs ≡ fewer ++ [] → fewer ≡ take (length xs - 1) xs → xs ≡ []
+none_left [] fewer same rest = refl
+none_left (x ∷ xs) fewer same rest =
+    let long = length-append fewer [] in
+    let short = length-take (length (x ∷ xs) - 1) (x ∷ xs) in
+    absurd (omega (arith, ap length same, ap length rest))

@@ -1,3 +1,4 @@
+mod Closes
 mod Empties
 mod Fronts
 mod Gathers
@@ -6,6 +7,7 @@ mod Laid
 mod Looks
 mod Opens
 mod Peels
+mod Reaches
 mod Shown
 mod Stepping
 mod Takes

@@ -27,7 +27,7 @@ fn gather<V: Kept>(shared: &FlagShared<V>, first: &mut FlagSeat<V>, mut seats: F
 pub fn shut<V: Kept>(table: FlagTable<V>, mut seats: FlagSeats<V>) -> Closed<Option<V>, Global>
     requires words { 0 < table.shared.table_id.words }
     requires slots { table.shared.table_id.slots ≡ length table.shared.key.states.value }
-    requires all { length seats ≡ table.shared.key.seats }
+    requires all { table.shared.key.seats ≤ length seats }
     requires rest { All (Rests table.shared.table_id) seats }
     requires no_turn { All HasNoTurn seats }
     ensures full { IsFull result.slots }
