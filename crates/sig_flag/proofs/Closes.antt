@@ -62,7 +62,7 @@ module _ {V : Type 0} (plan_of : V → SourcePlan) (history_of : V → List Entr
     counted = counted;
     each = λ source within.
         let turn = subst (λ (held : Option ℕ). IsTurn plan_of history_of (plan_at plans source) (told.history source) held (get_or s.words source 0) (get_or s.homes source slot.none))
-            (no_holder all are rest source within (told.holder source) refl) (told.turns source within) in
+        (no_holder all are rest source within (told.holder source) refl) (told.turns source within) in
         (turn.1.0, home source (Some turn.1.0) (there s.homes source (Some turn.1.0) turn.1.1), last_of all are source within turn.1.0 turn.1.2);
   }
 
@@ -87,7 +87,7 @@ module _ {V : Type 0} (plan_of : V → SourcePlan) (history_of : V → List Entr
         covers = λ number few.
             let number_at = λ (k : ℕ). (get_or view k none).number in
             let found = reaches seats number_at (λ k first. (its k (omega arith)).of_seat)
-                (λ k j first second same. told.apart id k j view _ _ at (lies k (omega arith)) (lies j (omega arith)) same) number few in
+            (λ k j first second same. told.apart id k j view _ _ at (lies k (omega arith)) (lies j (omega arith)) same) number few in
             let index : ℕ = found.0 in
             let before : index < seats = found.1 in
             let within : index < length all = omega arith in

@@ -69,7 +69,7 @@ module _ {V : Type 0} (plan_of : V → SourcePlan) (history_of : V → List Entr
             moved_account plans seats told.history told.holder told.place places other view account was (gone_there other id _ was.at_place ∙ sym here)
         | back k _ second ↦ let was = told.accounts id k own account at_id second in
             moved_account plans seats told.history told.holder told.place places id view account was
-                (gone_not other id _ (λ same. different (sym same ∙ was.at_place)) ∙ was.at_place ∙ sym here)
+            (gone_not other id _ (λ same. different (sym same ∙ was.at_place)) ∙ was.at_place ∙ sym here)
       ]
   gathered_account view index all account (spent none) is = absurd (some-ne-none account (sym (subst (λ (l : List Account). get_elem? l index ≡ slot.some account) (sym none) is)))
   gathered_account view index all account (elsewhere not_id not_other is_all) is =
@@ -92,7 +92,7 @@ module _ {V : Type 0} (plan_of : V → SourcePlan) (history_of : V → List Entr
   gathered_apart : (view one two : ℕ) (all : List Account) (a b : Account) → Lies s.views id other (others ++ own) view all → get_elem? all one ≡ slot.some a → get_elem? all two ≡ slot.some b → a.number ≡ b.number → one ≡ two
   gathered_apart view one two all a b (at_both here is_all) is_one is_two same =
       let lay : (index : ℕ) (account : Account) → get_elem? all index ≡ slot.some account → IsAt others own index account =
-          λ index account is. is_at others own index account (subst (λ (l : List Account). get_elem? l index ≡ slot.some account) (sym is_all) is) in
+      λ index account is. is_at others own index account (subst (λ (l : List Account). get_elem? l index ≡ slot.some account) (sym is_all) is) in
       apart_here one two a b (lay one a is_one) (lay two b is_two) same
   gathered_apart view one two all a b (spent none) is_one is_two same = absurd (some-ne-none a (sym (subst (λ (l : List Account). get_elem? l one ≡ slot.some a) (sym none) is_one)))
   gathered_apart view one two all a b (elsewhere _ _ is_all) is_one is_two same = told.apart view one two all a b is_all is_one is_two same

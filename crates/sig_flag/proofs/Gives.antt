@@ -98,33 +98,32 @@ module _ {V : Type 0} (plan_of : V → SourcePlan) (history_of : V → List Entr
       let has = mine.has_turn source turn in
       let plan_is = knows.of_plan in
       let goes_on = may_go old.number plan (told.history source) (known old source).seen after (told.sources source within) has.2
-          (subst (λ (p : SourcePlan). (after ≡ (known old source).seen) ⊎ ((entry : Entry) × IsNext plan_of history_of old.number p (known old source).seen entry after)) plan_is may.of_history) in
+      (subst (λ (p : SourcePlan). (after ≡ (known old source).seen) ⊎ ((entry : Entry) × IsNext plan_of history_of old.number p (known old source).seen entry after)) plan_is may.of_history) in
       let here = known_here old source (record (known old source) { seen = after; count = length after; own = own_entries old.number after }) (omega (arith, mine.of_plans)) in
       let shown : word_of count closed ≡ free_word plan after =
-          (λ i. word_of (may.of_count i) (may.of_closed i)) ∙ ap (λ (p : SourcePlan). free_word p after) plan_is in
+      (λ i. word_of (may.of_count i) (may.of_closed i)) ∙ ap (λ (p : SourcePlan). free_word p after) plan_is in
       stepped_rule plan_of history_of plans seats s told id source old (after_give old source after) after None word (set s.homes source (slot.some (Some state))) within at
-          (gives_turn old.number plan (told.history source) after (told.holder source) has.1 goes_on)
-          (record {
-            number = refl;
-            of_plans = length-set old.knows source _;
-            others = λ k. known_else old source k _;
-            knows = rw here (record { of_plan = plan_is; front = front_of_itself after; seen = omega arith; count = omega arith; own = refl });
-            turn_before = λ k _ none. absurd (cc);
-            turn_after = λ k other had. let same : k ≡ source = cc in absurd (other same);
-            has_turn = λ none. absurd (cc);
-            only = λ none. absurd (cc);
-          })
-          goes_on.legal
-          (is ∙ shown, (state, get_or-set_same s.homes source (slot.some (Some state)) slot.none has_slot, record { of_plan = may.of_plan ∙ plan_is; of_history = refl }))
-          (λ k other. get_or-set_other s.homes source k (slot.some (Some state)) slot.none other)
-          (λ number none. absurd (cc))
+      (gives_turn old.number plan (told.history source) after (told.holder source) has.1 goes_on)
+      (record {
+        number = refl;
+        of_plans = length-set old.knows source _;
+        others = λ k. known_else old source k _;
+        knows = rw here (record { of_plan = plan_is; front = front_of_itself after; seen = omega arith; count = omega arith; own = refl });
+        turn_before = λ k _ none. absurd (cc);
+        turn_after = λ k other had. let same : k ≡ source = cc in absurd (other same);
+        has_turn = λ none. absurd (cc);
+        only = λ none. absurd (cc);
+      })
+      goes_on.legal
+      (is ∙ shown, (state, get_or-set_same s.homes source (slot.some (Some state)) slot.none has_slot, record { of_plan = may.of_plan ∙ plan_is; of_history = refl }))
+      (λ k other. get_or-set_other s.homes source k (slot.some (Some state)) slot.none other)
+      (λ number none. absurd (cc))
 
   pub givings : (slots id : ℕ) (me : Seated V) (source count : ℕ) (closed : Bool) (word : ℕ) (state : V) → source < length plans → source < slots → me.0 ≡ account_of me.0 ∷ [] →
       (turn : (account_of me.0).turn ≡ Some source) → me.1 ≡ (source, Some state) ∷ [] → MayGive plan_of history_of (account_of me.0) source count closed state → word ≡ word_of count closed →
       Allows (Rule plan_of history_of plans seats) slots id me source (λ _. word) (λ _. IsGiving plan_of history_of (step slots source word 0 slot.none) me word)
   givings slots id me source count closed word state within has_slot one turn slot_is may is s told long at short =
-      let old = account_of me.0 in
-      (
+      let old = account_of me.0 in (
         after_give old source (history_of state) ∷ [],
         gives,
         tt,

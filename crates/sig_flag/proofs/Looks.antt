@@ -37,17 +37,17 @@ module _ {V : Type 0} (plan_of : V → SourcePlan) (history_of : V → List Entr
       let history = told.history source in
       let here = known_here old source (record (known old source) { count = count }) (omega (arith, mine.of_plans)) in
       stepped_rule plan_of history_of plans seats s told id source old (after_look old source count) history held (get_or s.words source 0) s.homes within at (stays old.number history held)
-          (record {
-            number = refl;
-            of_plans = length-set old.knows source _;
-            others = λ k. known_else old source k _;
-            knows = rw here (record { of_plan = knows.of_plan; front = knows.front; seen = omega arith; count = omega arith; own = knows.own });
-            turn_before = λ k _ turn. turn;
-            turn_after = λ k _ turn. turn;
-            has_turn = λ turn. let has = mine.has_turn source turn in (has.1, ap (λ (x : Knowledge). x.seen) here ∙ has.2);
-            only = mine.only source within;
-          })
-          (told.sources source within) (told.turns source within) (λ k _. refl) (λ number. told.holders source number within)
+      (record {
+        number = refl;
+        of_plans = length-set old.knows source _;
+        others = λ k. known_else old source k _;
+        knows = rw here (record { of_plan = knows.of_plan; front = knows.front; seen = omega arith; count = omega arith; own = knows.own });
+        turn_before = λ k _ turn. turn;
+        turn_after = λ k _ turn. turn;
+        has_turn = λ turn. let has = mine.has_turn source turn in (has.1, ap (λ (x : Knowledge). x.seen) here ∙ has.2);
+        only = mine.only source within;
+      })
+      (told.sources source within) (told.turns source within) (λ k _. refl) (λ number. told.holders source number within)
 
   pub looks : (slots id : ℕ) (me : Seated V) (source : ℕ) → source < length plans → me.0 ≡ account_of me.0 ∷ [] →
       Allows (Rule plan_of history_of plans seats) slots id me source (λ word. word) (IsLook (step slots source 0 0 slot.none) me)
@@ -55,8 +55,7 @@ module _ {V : Type 0} (plan_of : V → SourcePlan) (history_of : V → List Entr
       let old = account_of me.0 in
       let mine = told.accounts id 0 (old ∷ []) old (at ∙ ap slot.some one) refl in
       let legal = told.sources source within in
-      let shows = turn_shows plan_of history_of (plan_at plans source) (told.history source) (told.holder source) _ _ (told.turns source within) in
-      (
+      let shows = turn_shows plan_of history_of (plan_at plans source) (told.history source) (told.holder source) _ _ (told.turns source within) in (
         after_look old source (get_or s.words source 0 / 4) ∷ [],
         keeps,
         tt,

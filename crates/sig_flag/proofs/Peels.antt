@@ -61,25 +61,25 @@ module _ {V : Type 0} (plan_of : V → SourcePlan) (history_of : V → List Entr
       let lay : get_elem? others index ≡ slot.some account = subst (λ (l : List Account). get_elem? l index ≡ slot.some account) (sym is_all) is in
       let was = told.accounts id (suc index) (first ∷ others) account at lay in
       moved_account plans seats told.history told.holder told.place places id view account was
-          (put_else told.place first.number account.number (length s.views) (λ same. let equal : suc index ≡ 0 = told.apart id (suc index) 0 (first ∷ others) account first at lay refl same in omega arith) ∙ was.at_place ∙ sym here)
+      (put_else told.place first.number account.number (length s.views) (λ same. let equal : suc index ≡ 0 = told.apart id (suc index) 0 (first ∷ others) account first at lay refl same in omega arith) ∙ was.at_place ∙ sym here)
   peeled_account view index all account (elsewhere other is_all) is =
       let was = told.accounts view index all account is_all is in
       moved_account plans seats told.history told.holder told.place places view view account was
-          (put_else told.place first.number account.number (length s.views) (λ same. other (sym was.at_place ∙ ap told.place same ∙ own.at_place)) ∙ was.at_place)
+      (put_else told.place first.number account.number (length s.views) (λ same. other (sym was.at_place ∙ ap told.place same ∙ own.at_place)) ∙ was.at_place)
   peeled_account view index all account (fresh here is_all) is =
       let one = alone first account index (subst (λ (l : List Account). get_elem? l index ≡ slot.some account) (sym is_all) is) in
       subst (IsAccount plans seats told.history told.holder places view) one.1
-          (moved_account plans seats told.history told.holder told.place places id view first own (put_here told.place first.number (length s.views) ∙ sym here))
+      (moved_account plans seats told.history told.holder told.place places id view first own (put_here told.place first.number (length s.views) ∙ sym here))
 
   peeled_apart : (view one other : ℕ) (all : List Account) (a b : Account) → Lies s.views id first others view all → get_elem? all one ≡ slot.some a → get_elem? all other ≡ slot.some b → a.number ≡ b.number → one ≡ other
   peeled_apart view one other all a b (at_left here is_all) is_one is_other same =
       let lay : (index : ℕ) (account : Account) → get_elem? all index ≡ slot.some account → get_elem? (first ∷ others) (suc index) ≡ slot.some account =
-          λ index account is. subst (λ (l : List Account). get_elem? l index ≡ slot.some account) (sym is_all) is in
+      λ index account is. subst (λ (l : List Account). get_elem? l index ≡ slot.some account) (sym is_all) is in
       let equal : suc one ≡ suc other = told.apart id (suc one) (suc other) (first ∷ others) a b at (lay one a is_one) (lay other b is_other) same in omega arith
   peeled_apart view one other all a b (elsewhere _ is_all) is_one is_other same = told.apart view one other all a b is_all is_one is_other same
   peeled_apart view one other all a b (fresh here is_all) is_one is_other same =
       let lone : (index : ℕ) (account : Account) → get_elem? all index ≡ slot.some account → index ≡ 0 =
-          λ index account is. (alone first account index (subst (λ (l : List Account). get_elem? l index ≡ slot.some account) (sym is_all) is)).0 in
+      λ index account is. (alone first account index (subst (λ (l : List Account). get_elem? l index ≡ slot.some account) (sym is_all) is)).0 in
       lone one a is_one ∙ sym (lone other b is_other)
 
   peeled : Rule plan_of history_of plans seats (record { words = s.words; homes = s.homes; views = set s.views id others ++ (first ∷ []) ∷ [] })
@@ -143,8 +143,10 @@ module _ {V : Type 0} (id : TableId) (plans : List SourcePlan) (seats : ℕ) whe
           has = after_is ∙ ap (λ (m : List Account × List (ℕ × Option V)). (all_others m.0, m.1)) next.2 ∙ ap (λ (n : ℕ). (accounts_from plans n next.0, [])) following;
         };
         all = ap length longer_is ∙ length_push dealt new ∙ ap (λ (n : ℕ). n + 1) dealing.all;
-        each = record { each = λ k seat is. ⊎_elim
-            (λ before. dealing.each.each k seat before)
-            (λ last. subst (λ (z : ℕ × Seat (Option V) (List Account)). (z.1.table_id ≡ id) × Has z.1 (opening_account plans z.0) []) (λ i. (sym (last.0 ∙ dealing.all) i, last.1 i)) dealt_new)
-            (pushed_at dealt new seat k (subst (λ (all : List (Seat (Option V) (List Account))). slice_get all k ≡ Some seat) longer_is is)) };
+        each = record {
+          each = λ k seat is. ⊎_elim
+              (λ before. dealing.each.each k seat before)
+              (λ last. subst (λ (z : ℕ × Seat (Option V) (List Account)). (z.1.table_id ≡ id) × Has z.1 (opening_account plans z.0) []) (λ i. (sym (last.0 ∙ dealing.all) i, last.1 i)) dealt_new)
+              (pushed_at dealt new seat k (subst (λ (all : List (Seat (Option V) (List Account))). slice_get all k ≡ Some seat) longer_is is));
+        };
       }

@@ -19,9 +19,11 @@ record IsLowered (top missing found low : ℕ) : Type 0 where
 
 is_lowered : (top missing : ℕ) (f : ℕ → ℕ) (k : ℕ) → IsLowered top missing (f k) (lowered top missing f k)
 unfolding lowered
-is_lowered top missing f k = record { either = dite (ℕ_discrete (f k) top)
-    (λ same. inl (same, ap (put (λ (n : ℕ). n) top missing) same ∙ put_here (λ (n : ℕ). n) top missing))
-    (λ other. inr (other, put_else (λ (n : ℕ). n) top (f k) missing other)) }
+is_lowered top missing f k = record {
+  either = dite (ℕ_discrete (f k) top)
+      (λ same. inl (same, ap (put (λ (n : ℕ). n) top missing) same ∙ put_here (λ (n : ℕ). n) top missing))
+      (λ other. inr (other, put_else (λ (n : ℕ). n) top (f k) missing other));
+}
 
 same_found : (top missing a b x y : ℕ) → IsLowered top missing a x → IsLowered top missing b y → a ≢ missing → b ≢ missing → x ≡ y → a ≡ b
 same_found top missing a b x y first second not_a not_b same = ⊎_elim
@@ -52,7 +54,7 @@ none_fit (suc bound) f different =
       apart = λ k j first second same. different.apart k j (omega arith) (omega arith) same;
     } in
     none_fit bound (lowered bound (f (suc bound)) f)
-        (still_different (suc bound) bound (f (suc bound)) f fewer last (λ k within same. let equal : k ≡ suc bound = different.apart k (suc bound) (omega arith) (omega arith) same in omega arith))
+    (still_different (suc bound) bound (f (suc bound)) f fewer last (λ k within same. let equal : k ≡ suc bound = different.apart k (suc bound) (omega arith) (omega arith) same in omega arith))
 
 -- one of them is this number, or none is
 search_below : (count number : ℕ) (f : ℕ → ℕ) → ((k : ℕ) × (k < count) × (f k ≡ number)) ⊎ ((k : ℕ) → k < count → f k ≢ number)
@@ -60,9 +62,9 @@ search_below zero number f = inr (λ k within. absurd (omega arith))
 search_below (suc count) number f = dite (ℕ_discrete (f count) number)
     (λ same. inl (count, (let within : count < suc count = omega arith in within), same))
     (λ other. ⊎_elim
-        (λ found. inl (found.0, (let before : found.0 < count = found.1 in let within : found.0 < suc count = omega arith in within), found.2))
-        (λ none. inr (λ k within. dite (ℕ_discrete k count) (λ same. subst (λ (j : ℕ). f j ≢ number) (sym same) other) (λ differs. none k (omega arith))))
-        (search_below count number f))
+    (λ found. inl (found.0, (let before : found.0 < count = found.1 in let within : found.0 < suc count = omega arith in within), found.2))
+    (λ none. inr (λ k within. dite (ℕ_discrete k count) (λ same. subst (λ (j : ℕ). f j ≢ number) (sym same) other) (λ differs. none k (omega arith))))
+    (search_below count number f))
 
 pub reaches : (count : ℕ) (f : ℕ → ℕ) → ((k : ℕ) → k < count → f k < count) → ((k j : ℕ) → k < count → j < count → f k ≡ f j → k ≡ j) → (number : ℕ) → number < count → (k : ℕ) × (k < count) × (f k ≡ number)
 reaches zero f below apart number few = absurd (omega arith)

@@ -30,8 +30,8 @@ put_else f at k x other = ap (λ (same : Bool). cond same x (f k)) (ne_eqb k at 
 pub by_place : {X Y : Type 0} (P : ℕ → X → Y → Type 0) (f : ℕ → X) (g : ℕ → Y) (at : ℕ) (x : X) (y : Y) → P at x y → ((k : ℕ) → k ≢ at → P k (f k) (g k)) → (k : ℕ) → P k (put f at x k) (put g at y k)
 by_place {X} {Y} P f g at x y here others k =
     dite (ℕ_discrete k at)
-        (λ same. subst (λ (j : ℕ). P j (put f at x j) (put g at y j)) (sym same) (subst (λ (v : X). P at v (put g at y at)) (sym (put_here f at x)) (subst (P at x) (sym (put_here g at y)) here)))
-        (λ other. subst (λ (v : X). P k v (put g at y k)) (sym (put_else f at k x other)) (subst (P k (f k)) (sym (put_else g at k y other)) (others k other)))
+    (λ same. subst (λ (j : ℕ). P j (put f at x j) (put g at y j)) (sym same) (subst (λ (v : X). P at v (put g at y at)) (sym (put_here f at x)) (subst (P at x) (sym (put_here g at y)) here)))
+    (λ other. subst (λ (v : X). P k v (put g at y k)) (sym (put_else f at k x other)) (subst (P k (f k)) (sym (put_else g at k y other)) (others k other)))
 
 -- ---- accounts
 
@@ -114,9 +114,9 @@ found : (views : List (List Account)) (id : ℕ) (new : Account) (view at : ℕ)
     ((view ≡ id) × (at ≡ 0) × (new ≡ account)) ⊎ ((view ≢ id) × (get_elem? views view ≡ slot.some all))
 found views id new view at all account is_view is_account =
     ⊎_elim
-        (λ same. let one = alone new account at (subst (λ (l : List Account). get_elem? l at ≡ slot.some account) (sym same.1) is_account) in inl (same.0, one.0, one.1))
-        (λ other. inr other)
-        (at_set views id view (new ∷ []) all is_view)
+    (λ same. let one = alone new account at (subst (λ (l : List Account). get_elem? l at ≡ slot.some account) (sym same.1) is_account) in inl (same.0, one.0, one.1))
+    (λ other. inr other)
+    (at_set views id view (new ∷ []) all is_view)
 
 module _ {V : Type 0} (plan_of : V → SourcePlan) (history_of : V → List Entry) (plans : List SourcePlan) (seats : ℕ) where
   abbrev pub Rule : State (Option V) (List Account) → Type 0
@@ -147,10 +147,10 @@ module _ {V : Type 0} (plan_of : V → SourcePlan) (history_of : V → List Entr
             (λ _. holder_seat number) (λ k _ near. told.holders k number near) k near;
         accounts = λ view at all account is_view is_account. ⊎_elim
             (λ own. subst (λ (z : ℕ × Account). IsAccount plans seats histories holders told.place z.0 z.1) (λ i. (sym own.0 i, own.2 i))
-                (own_account plans seats told.history told.holder told.place source after held id old new within mine changes))
+            (own_account plans seats told.history told.holder told.place source after held id old new within mine changes))
             (λ kept. let is = told.accounts view at all account kept.1 is_account in
-                other_account plans seats told.history told.holder told.place source after held old.number view account is
-                    (λ same. kept.0 (sym is.at_place ∙ ap told.place same ∙ mine.at_place)) passes)
+            other_account plans seats told.history told.holder told.place source after held old.number view account is
+            (λ same. kept.0 (sym is.at_place ∙ ap told.place same ∙ mine.at_place)) passes)
             (found s.views id new view at all account is_view is_account);
         apart = λ view one other all a b is_view is_one is_other same. ⊎_elim
             (λ first. ⊎_elim (λ second. first.1 ∙ sym second.1) (λ kept. absurd (kept.0 first.0)) (found s.views id new view other all b is_view is_other))

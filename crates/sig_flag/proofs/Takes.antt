@@ -65,21 +65,21 @@ module _ {V : Type 0} (plan_of : V → SourcePlan) (history_of : V → List Entr
       let knows = mine.knows source within in
       let here = known_here old source (record (known old source) { seen = after; count = length after }) (omega (arith, mine.of_plans)) in
       stepped_rule plan_of history_of plans seats s told id source old (after_turn old source after) after (Some old.number) word (set s.homes source slot.none) within at
-          (takes_turn old.number (told.history source) after (told.holder source) free is)
-          (record {
-            number = refl;
-            of_plans = length-set old.knows source _;
-            others = λ k. known_else old source k _;
-            knows = rw here (record { of_plan = knows.of_plan; front = front_of_itself after; seen = omega arith; count = omega arith; own = rw is knows.own });
-            turn_before = λ k other turn. let same : k ≡ source = cc in absurd (other same);
-            turn_after = λ k _ turn. absurd (cc);
-            has_turn = λ _. (refl, ap (λ (x : Knowledge). x.seen) here);
-            only = λ _. refl;
-          })
-          (rw is (told.sources source within))
-          (word_is, taken_out s.homes source)
-          (λ k other. get_or-set_other s.homes source k slot.none slot.none other)
-          (λ number holds. let same : old.number ≡ number = cc in subst (λ (n : ℕ). n < seats) same mine.of_seat)
+      (takes_turn old.number (told.history source) after (told.holder source) free is)
+      (record {
+        number = refl;
+        of_plans = length-set old.knows source _;
+        others = λ k. known_else old source k _;
+        knows = rw here (record { of_plan = knows.of_plan; front = front_of_itself after; seen = omega arith; count = omega arith; own = rw is knows.own });
+        turn_before = λ k other turn. let same : k ≡ source = cc in absurd (other same);
+        turn_after = λ k _ turn. absurd (cc);
+        has_turn = λ _. (refl, ap (λ (x : Knowledge). x.seen) here);
+        only = λ _. refl;
+      })
+      (rw is (told.sources source within))
+      (word_is, taken_out s.homes source)
+      (λ k other. get_or-set_other s.homes source k slot.none slot.none other)
+      (λ number holds. let same : old.number ≡ number = cc in subst (λ (n : ℕ). n < seats) same mine.of_seat)
 
   held_rule : (s : State (Option V) (List Account)) (told : Rule plan_of history_of plans seats s) (id source word found : ℕ) (old : Account) → source < length plans → get_elem? s.views id ≡ slot.some (old ∷ []) →
       word ≡ get_or s.words source 0 →
@@ -89,17 +89,17 @@ module _ {V : Type 0} (plan_of : V → SourcePlan) (history_of : V → List Entr
       let held = told.holder source in
       let history = told.history source in
       stepped_rule plan_of history_of plans seats s told id source old (after_held old source found) history held word s.homes within at (stays old.number history held)
-          (record {
-            number = refl;
-            of_plans = refl;
-            others = λ k _. refl;
-            knows = mine.knows source within;
-            turn_before = λ k _ turn. turn;
-            turn_after = λ k _ turn. turn;
-            has_turn = λ turn. let has = mine.has_turn source turn in (has.1, has.2);
-            only = mine.only source within;
-          })
-          (told.sources source within) (rw is (told.turns source within)) (λ k _. refl) (λ number. told.holders source number within)
+      (record {
+        number = refl;
+        of_plans = refl;
+        others = λ k _. refl;
+        knows = mine.knows source within;
+        turn_before = λ k _ turn. turn;
+        turn_after = λ k _ turn. turn;
+        has_turn = λ turn. let has = mine.has_turn source turn in (has.1, has.2);
+        only = mine.only source within;
+      })
+      (told.sources source within) (rw is (told.turns source within)) (λ k _. refl) (λ number. told.holders source number within)
 
   module _ (slots id : ℕ) (me : Seated V) (source : ℕ) where
     abbrev Taken : State (Option V) (List Account) → Type 0
@@ -115,8 +115,7 @@ module _ {V : Type 0} (plan_of : V → SourcePlan) (history_of : V → List Entr
         let state = turn.1.0 in
         let is_state = turn.1.2 in
         let plan = plan_at plans source in
-        let set_bit = subst (λ (w : ℕ). IsSet w (free_word plan (told.history source) + 1) false) (sym turn.0) (free_set (length (told.history source)) (is_closed (writers_of plan.allow) (told.history source))) in
-        (
+        let set_bit = subst (λ (w : ℕ). IsSet w (free_word plan (told.history source) + 1) false) (sym turn.0) (free_set (length (told.history source)) (is_closed (writers_of plan.allow) (told.history source))) in (
           after_turn old source (history_of state) ∷ [],
           takes source (Some state),
           there s.homes source (Some state) turn.1.1,
@@ -130,8 +129,7 @@ module _ {V : Type 0} (plan_of : V → SourcePlan) (history_of : V → List Entr
         let old = account_of me.0 in
         let plan = plan_at plans source in
         let word = get_or s.words source 0 in
-        let set_bit = subst (λ (w : ℕ). IsSet w (free_word plan (told.history source) + 1) true) (sym turn.0) (held_set (length (told.history source)) (is_closed (writers_of plan.allow) (told.history source))) in
-        (
+        let set_bit = subst (λ (w : ℕ). IsSet w (free_word plan (told.history source) + 1) true) (sym turn.0) (held_set (length (told.history source)) (is_closed (writers_of plan.allow) (told.history source))) in (
           after_held old source word ∷ [],
           keeps,
           tt,

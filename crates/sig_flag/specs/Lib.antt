@@ -4,4 +4,5 @@ pub mod Machines
 pub mod Opening
 pub mod Plays
 pub mod Told
+pub mod Trial
 pub mod Words

@@ -98,7 +98,11 @@ impl<V: Kept> Flags<V> {
         ensures taken { IsTake V.plan V.history seat.old seat.new source result }
     {
         let word = self.table.shared.fetch_or::<Take<V>>(seat, source, 1);
-        if is_held(word) { Taken::Held { word } } else { Taken::Turn }
+        if is_held(word) {
+            Taken::Held { word }
+        } else {
+            Taken::Turn
+        }
     }
 
     /// Takes the state out of the slot of the source whose turn the seat has.

@@ -9,6 +9,8 @@ mod opening;
 mod plays;
 mod rule;
 mod shape;
+#[cfg(test)]
+mod tests;
 mod words;
 
 pub use accounts::{Account, Hold, Knowledge, Watch};

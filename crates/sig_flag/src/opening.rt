@@ -21,7 +21,10 @@ use std::snapshot::Snapshot;
 fn opening_words(alloc: Global, closed: &[bool]) -> Result<Vec<u64>, NoMemory>
     ensures { IfOk result (λ words. words.items ≡ map (λ closed. word_of 0 closed) closed.now) }
 {
-    closed.iter().map(|closed| word_of(0, *closed)).collect(alloc)
+    closed
+        .iter()
+        .map(|closed| word_of(0, *closed))
+        .collect(alloc)
 }
 
 /// The slots with all states at home.

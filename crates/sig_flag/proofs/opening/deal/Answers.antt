@@ -12,4 +12,4 @@ pub seats-preserved : goal.seats-preserved
 seats-preserved g c =
     let more : c.seats._number < c.args.shared.now.key.seats = omega (arith, c.requires.count) in
     let split = c.split_seat.ensures in
-    dealt_more _ _ _ _ _ _ c.split_seat.result _ _ c.seats.invariant more split.0 split.2 (split.3 ) split.4 c.in_ok-push.ensures.items
+    dealt_more _ _ _ _ _ _ c.split_seat.result _ _ c.seats.invariant more split.0 split.2 (split.3) split.4 c.in_ok-push.ensures.items

@@ -13,4 +13,4 @@ take_all-requires-clause-home g c = home_of _ _ _ c.self.inside.table.shared.key
 pub returns-clause-states : goal.returns-clause-states
 returns-clause-states g c =
     subst (λ (m : Machine). IsEnd g.V.Kept.plan g.V.Kept.history m c.args.seats c.from_vec.result) c.self.view_is
-        (rw c.from_vec.ensures (ends _ _ _ _ _ c.args.seats _ _ _ c.shut-closed.ensures.slots (slots_counts c.shut-closed.result.slots).0 c.take_all.ensures))
+    (rw c.from_vec.ensures (ends _ _ _ _ _ c.args.seats _ _ _ c.shut-closed.ensures.slots (slots_counts c.shut-closed.result.slots).0 c.take_all.ensures))
