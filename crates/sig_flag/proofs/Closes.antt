@@ -1,5 +1,5 @@
 -- Once all seats are back and none has a turn, each source's state is in its slot.
-use Rattle.std.proofs.Common.{◌≡◌, ◌∙◌, ℕ, zero, suc, ◌+◌, ◌<◌, ◌≤◌, List, [], ◌∷◌, ◌++◌, length, map, get_or, slice_get, Option, None, Some, All, refl, sym, ap, subst, arith}
+use Rattle.std.proofs.Common.{◌≡◌, ◌∙◌, ℕ, zero, suc, ◌<◌, ◌≤◌, List, [], ◌∷◌, length, map, get_or, Option, None, Some, All, refl, sym, ap, subst, arith}
 use Rattle.std.proofs.lemmas.List.{length-map, get_or-map}
 use Rattle.std.proofs.lemmas.Option.{slice_get_within}
 use mathlib.Core.Option as slot
@@ -8,14 +8,13 @@ use lib.ListN.{get_elem?}
 use Rattle.atomic_table.specs.Seated.{TableId}
 use Rattle.atomic_table.specs.Table.{State, Final, Seen}
 use Rattle.atomic_table.specs.declared.shared.Seat.{Seat}
-use Rattle.atomic_table.proofs.Lists.{at_index}
 use Rattle.sig_flag.proofs.Reaches.{reaches}
 use Rattle.sig_flag.proofs.Stepping.{Rule}
 use Rattle.sig_flag.proofs.Takes.{there}
-use Rattle.sig_flag.specs.Accounts.{plan_at, known, opening_account}
+use Rattle.sig_flag.specs.Accounts.{plan_at, opening_account}
 use Rattle.sig_flag.specs.Closing.{IsShut, AreTaken, AreHome}
 use Rattle.sig_flag.specs.Machines.{account, HasNoTurn, IsLast, IsEnd}
-use Rattle.sig_flag.specs.Told.{IsHistory, IsKnown, IsTurn, IsState, IsAccount, Told}
+use Rattle.sig_flag.specs.Told.{IsTurn, IsState, IsAccount}
 use Rattle.sig_flag.specs.declared.accounts.Account.{Account}
 use Rattle.sig_hist.specs.declared.edits.Entry.{Entry}
 use Rattle.sig_hist.specs.declared.plans.SourcePlan.{SourcePlan}

@@ -1,6 +1,6 @@
 -- Histories that go on from one another, and what a seat knows of them.
-use Rattle.std.proofs.Common.{◌≡◌, ◌∙◌, ℕ, zero, suc, ◌+◌, ◌<◌, ◌≤◌, List, [], ◌∷◌, ◌++◌, length, take, min, refl, sym, ap, subst, arith}
-use Rattle.std.proofs.lemmas.List.{length-take, take_all, take_at}
+use Rattle.std.proofs.Common.{◌≡◌, ◌∙◌, ℕ, zero, suc, ◌≤◌, List, [], ◌∷◌, length, take, refl, sym, ap, arith}
+use Rattle.std.proofs.lemmas.List.{length-take, take_all}
 use Rattle.sig_flag.specs.Told.{IsKnown}
 use Rattle.sig_flag.specs.declared.accounts.Knowledge.{Knowledge}
 use Rattle.sig_hist.specs.Histories.{IsFront, own_entries}

@@ -1,5 +1,5 @@
 -- The accounts of all seats come to one seat.
-use Rattle.std.proofs.Common.{◌≡◌, ◌∙◌, ℕ, zero, suc, ◌+◌, ◌-◌, ◌<◌, ◌≢◌, ◌==◌, ◌⊎◌, ⊎_elim, inl, inr, List, [], ◌∷◌, ◌++◌, length, take, map, get_or, set, cond, Bool, Option, None, Some, All, refl, sym, ap, subst, eq-eqb, ne_eqb, append_assoc, arith}
+use Rattle.std.proofs.Common.{◌≡◌, ◌∙◌, ℕ, zero, suc, ◌+◌, ◌-◌, ◌≢◌, ◌==◌, ⊎_elim, List, [], ◌∷◌, ◌++◌, length, take, map, set, cond, Bool, Option, All, refl, sym, ap, subst, eq-eqb, ne_eqb, append_assoc, arith}
 use Rattle.std.proofs.lemmas.List.{length_push, length-append, length-take, get_or_append_left, get_or_push, map-append}
 use mathlib.Core.Option as slot
 use mathlib.Core.Option.{some-injective, some-ne-none}
@@ -13,7 +13,7 @@ use Rattle.sig_flag.proofs.Stepping.{Rule}
 use Rattle.sig_flag.specs.Closing.{Rests}
 use Rattle.sig_flag.specs.Machines.{account}
 use Rattle.sig_flag.specs.Plays.{with_others, no_account}
-use Rattle.sig_flag.specs.Told.{IsAccount, Told}
+use Rattle.sig_flag.specs.Told.{IsAccount}
 use Rattle.sig_flag.specs.declared.accounts.Account.{Account}
 use Rattle.sig_hist.specs.declared.edits.Entry.{Entry}
 use Rattle.sig_hist.specs.declared.plans.SourcePlan.{SourcePlan}

@@ -1,23 +1,20 @@
 -- Giving the turn back keeps the told rule.
-use Rattle.std.proofs.Common.{◌≡◌, ◌∙◌, ℕ, zero, suc, ◌+◌, ◌<◌, ◌≢◌, ◌==◌, ◌⊎◌, ⊎_elim, List, [], ◌∷◌, ◌++◌, length, get_or, set, Bool, true, false, Option, None, Some, refl, sym, ap, subst, ne_eqb, arith}
+use Rattle.std.proofs.Common.{◌≡◌, ◌∙◌, ℕ, ◌<◌, ◌≢◌, ◌==◌, ◌⊎◌, ⊎_elim, List, [], ◌∷◌, ◌++◌, length, set, Bool, true, false, Option, None, Some, refl, sym, ap, subst, ne_eqb, arith}
 use Rattle.std.proofs.lemmas.Bool.{eqb-true}
 use Rattle.std.proofs.lemmas.List.{get_or-set_same, get_or-set_other, length-set, take_at}
 use mathlib.Core.Option as slot
 use lib.ListN.{get_elem?}
-use Rattle.atomic_table.specs.Table.{State, Allows, Act, step, stepped, gives, rest}
-use Rattle.atomic_table.specs.declared.shared.Seat.{Seat}
+use Rattle.atomic_table.specs.Table.{State, Allows, step, stepped, gives, rest}
 use Rattle.sig_flag.proofs.Fronts.{front_of_itself}
-use Rattle.sig_flag.proofs.Stepping.{Rule, Passes, Changes, stepped_rule, known_here, known_else}
+use Rattle.sig_flag.proofs.Stepping.{Rule, Passes, stepped_rule, known_here, known_else}
 use Rattle.sig_flag.specs.Accounts.{account_of, known, plan_at, after_give}
-use Rattle.sig_flag.specs.Machines.{HasTurn, MayGive, IsNext}
+use Rattle.sig_flag.specs.Machines.{MayGive, IsNext}
 use Rattle.sig_flag.specs.Plays.{Seated, IsGiving}
-use Rattle.sig_flag.specs.Told.{IsHistory, IsKnown, IsAccount, IsTurn, IsState, LeavesLast}
+use Rattle.sig_flag.specs.Told.{IsHistory, LeavesLast}
 use Rattle.sig_flag.specs.Words.{free_word, word_of}
 use Rattle.sig_flag.specs.declared.accounts.Account.{Account}
-use Rattle.sig_flag.specs.declared.accounts.Knowledge.{Knowledge}
 use Rattle.sig_hist.proofs.Entries.{own_entries_own, own_entries_other}
-use Rattle.sig_hist.specs.Histories.{IsFront, own_entries, ends_with_leave, has_left, is_leave, is_closed}
-use Rattle.sig_hist.specs.Sources.{IsSource, writers_of}
+use Rattle.sig_hist.specs.Histories.{IsFront, own_entries, ends_with_leave, has_left, is_leave}
 use Rattle.sig_hist.specs.declared.edits.Entry.{Entry}
 use Rattle.sig_hist.specs.declared.plans.SourcePlan.{SourcePlan}
 

@@ -1,16 +1,16 @@
 -- A look keeps the told rule.
-use Rattle.std.proofs.Common.{◌≡◌, ◌∙◌, ℕ, ◌<◌, ◌≤◌, ◌/◌, ◌^◌, List, [], ◌∷◌, length, get_or, set, Option, refl, sym, ap, subst, arith}
+use Rattle.std.proofs.Common.{◌≡◌, ◌∙◌, ℕ, ◌<◌, ◌/◌, List, [], ◌∷◌, length, get_or, set, Option, refl, sym, ap, arith}
 use Rattle.std.proofs.lemmas.List.{length-set}
 use mathlib.Core.Option as slot
 use lib.ListN.{get_elem?}
 use Rattle.atomic_table.specs.Table.{State, Allows, step, keeps}
 use Rattle.sig_flag.proofs.Fronts.{whole_front}
 use Rattle.sig_flag.proofs.Shown.{Shows, turn_shows}
-use Rattle.sig_flag.proofs.Stepping.{Rule, Changes, stepped_rule, stays, known_here, known_else}
+use Rattle.sig_flag.proofs.Stepping.{Rule, stepped_rule, stays, known_here, known_else}
 use Rattle.sig_flag.specs.Accounts.{account_of, known, plan_at, after_look}
 use Rattle.sig_flag.specs.Machines.{IsShown}
 use Rattle.sig_flag.specs.Plays.{Seated, IsLook}
-use Rattle.sig_flag.specs.Told.{IsKnown, IsAccount}
+use Rattle.sig_flag.specs.Told.{IsKnown}
 use Rattle.sig_flag.specs.Words.{version_in}
 use Rattle.sig_flag.specs.declared.accounts.Account.{Account}
 use Rattle.sig_flag.specs.declared.accounts.Knowledge.{Knowledge}

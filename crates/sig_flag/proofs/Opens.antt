@@ -1,22 +1,21 @@
 -- The told rule holds at the start.
-use Rattle.std.proofs.Common.{◌≡◌, ◌∙◌, ℕ, zero, suc, ◌+◌, ◌<◌, ◌≤◌, List, [], ◌∷◌, length, map, get_or, Bool, Option, None, Some, All, refl, sym, ap, subst, arith}
+use Rattle.std.proofs.Common.{◌≡◌, ◌∙◌, ℕ, zero, suc, ◌+◌, ◌<◌, List, [], ◌∷◌, length, map, get_or, Bool, Option, None, Some, All, refl, sym, ap, subst, arith}
 use Rattle.std.proofs.lemmas.List.{length-map}
 use Rattle.std.proofs.lemmas.List.Elements.{All-head, All-tail}
 use Rattle.std.proofs.Math.ListN.{get_or-map}
 use mathlib.Core.Option as slot
 use mathlib.Core.Option.{some-injective, some-ne-none}
 use lib.ListN.{get_elem?}
-use Rattle.atomic_table.specs.Table.{State, opening}
-use Rattle.sig_flag.proofs.Stepping.{Rule, alone}
+use Rattle.atomic_table.specs.Table.{opening}
+use Rattle.sig_flag.proofs.Stepping.{Rule}
 use Rattle.sig_flag.specs.Accounts.{plan_at, no_plan, known, opening_knowledge, opening_account, accounts_from, opening_accounts}
 use Rattle.sig_flag.specs.Machines.{IsNew, IsShape}
-use Rattle.sig_flag.specs.Told.{IsHistory, IsKnown, IsTurn, IsAccount, Told}
+use Rattle.sig_flag.specs.Told.{IsHistory, IsKnown, IsTurn, IsAccount}
 use Rattle.sig_flag.specs.Words.{word_of}
 use Rattle.sig_flag.specs.declared.accounts.Account.{Account}
-use Rattle.sig_flag.specs.declared.accounts.Knowledge.{Knowledge}
 use Rattle.sig_flag.specs.declared.shape.FlagShape.{FlagShape}
 use Rattle.sig_hist.specs.Histories.{is_closed}
-use Rattle.sig_hist.specs.Sources.{IsPlan, writers_of}
+use Rattle.sig_hist.specs.Sources.{writers_of}
 use Rattle.sig_hist.specs.declared.edits.Entry.{Entry}
 use Rattle.sig_hist.specs.declared.plans.SourcePlan.{SourcePlan}
 

@@ -1,5 +1,5 @@
 -- A seat for each account: the first account of a seat goes to a seat of its own.
-use Rattle.std.proofs.Common.{◌≡◌, ◌∙◌, ℕ, zero, suc, ◌+◌, ◌-◌, ◌<◌, ◌≤◌, ◌≢◌, ◌⊎◌, ⊎_elim, inl, inr, List, [], ◌∷◌, ◌++◌, length, map, set, slice_get, Option, None, Some, refl, sym, ap, subst, add-one, arith}
+use Rattle.std.proofs.Common.{◌≡◌, ◌∙◌, ℕ, zero, suc, ◌+◌, ◌-◌, ◌<◌, ◌≢◌, ◌⊎◌, ⊎_elim, inl, inr, List, [], ◌∷◌, ◌++◌, length, set, slice_get, Option, Some, refl, sym, ap, subst, arith}
 use Rattle.std.proofs.lemmas.List.{length-set, length_push}
 use mathlib.Core.Option as slot
 use mathlib.Core.Option.{some-injective, some-ne-none}
@@ -12,7 +12,7 @@ use Rattle.sig_flag.proofs.Stepping.{Rule, alone, put_here, put_else}
 use Rattle.sig_flag.specs.Accounts.{accounts_from, opening_account}
 use Rattle.sig_flag.specs.Machines.{Has}
 use Rattle.sig_flag.specs.Plays.{IsLeft, AreDealt, first_alone, all_others}
-use Rattle.sig_flag.specs.Told.{IsAccount, Told}
+use Rattle.sig_flag.specs.Told.{IsAccount}
 use Rattle.sig_flag.specs.declared.accounts.Account.{Account}
 use Rattle.sig_hist.specs.Ports.{put}
 use Rattle.sig_hist.specs.declared.edits.Entry.{Entry}

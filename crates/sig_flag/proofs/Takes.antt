@@ -1,6 +1,6 @@
 -- A take keeps the told rule.
-use Rattle.std.proofs.Common.{◌≡◌, ◌∙◌, ℕ, zero, suc, ◌+◌, ◌<◌, ◌≢◌, List, [], ◌∷◌, length, get_or, set, true, false, Option, None, Some, refl, sym, ap, subst, arith}
-use Rattle.std.proofs.lemmas.List.{get_or-set_same, get_or-set_other, length-set}
+use Rattle.std.proofs.Common.{◌≡◌, ◌∙◌, ℕ, zero, suc, ◌+◌, ◌<◌, List, [], ◌∷◌, length, get_or, set, true, false, Option, None, Some, refl, sym, ap, subst, arith}
+use Rattle.std.proofs.lemmas.List.{get_or-set_other, length-set}
 use mathlib.Core.Option as slot
 use mathlib.Core.Option.{some-injective, some-ne-none}
 use lib.ListN.{get_elem?}
@@ -8,12 +8,12 @@ use Rattle.std.specs.Int.Bits.{bit_or}
 use Rattle.atomic_table.specs.Table.{State, Allows, Act, Valid, step, stepped, carried_after, keeps, takes}
 use Rattle.sig_flag.proofs.Fronts.{front_of_itself}
 use Rattle.sig_flag.proofs.Shown.{IsSet, free_set, held_set}
-use Rattle.sig_flag.proofs.Stepping.{Rule, Passes, Changes, stepped_rule, stays, known_here, known_else}
+use Rattle.sig_flag.proofs.Stepping.{Rule, Passes, stepped_rule, stays, known_here, known_else}
 use Rattle.sig_flag.specs.Accounts.{account_of, known, plan_at, after_turn, after_held}
 use Rattle.sig_flag.specs.Machines.{IsMet}
 use Rattle.sig_flag.specs.Plays.{Seated, IsTaking}
-use Rattle.sig_flag.specs.Told.{IsHistory, IsKnown, IsAccount, IsTurn, IsState}
-use Rattle.sig_flag.specs.Words.{free_word, is_held}
+use Rattle.sig_flag.specs.Told.{IsHistory, IsKnown, IsTurn, IsState}
+use Rattle.sig_flag.specs.Words.{free_word}
 use Rattle.sig_flag.specs.declared.accounts.Account.{Account}
 use Rattle.sig_flag.specs.declared.accounts.Knowledge.{Knowledge}
 use Rattle.sig_hist.specs.Histories.{IsFront, own_entries, is_closed}

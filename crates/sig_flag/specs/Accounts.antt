@@ -1,5 +1,5 @@
 -- What seats know, one account a seat, and what the steps change of it.
-use Rattle.std.specs.Prelude.{ℕ, zero, suc, ◌+◌, pos, List, [], ◌∷◌, ◌++◌, length, map, slice_index_or, slice_set, Option, None, Some}
+use Rattle.std.specs.Prelude.{ℕ, zero, suc, pos, List, [], ◌∷◌, ◌++◌, length, map, slice_index_or, slice_set, None, Some}
 use Rattle.sig_diff.specs.declared.contents.Content.TheVariants.{Cell}
 use Rattle.sig_flag.specs.declared.accounts.Account.{Account}
 use Rattle.sig_flag.specs.declared.accounts.Knowledge.{Knowledge}

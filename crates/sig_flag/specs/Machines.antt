@@ -1,10 +1,10 @@
 -- What the calls of a machine ask and tell.
-use Rattle.std.specs.Prelude.{◌≡◌, ℕ, ◌<◌, ◌≤◌, ◌==◌, List, [], ◌∷◌, ◌++◌, length, map, slice_get, slice_index_or, Bool, true, false, Option, None, Some, ◌⊎◌, All}
+use Rattle.std.specs.Prelude.{◌≡◌, ℕ, ◌<◌, ◌≤◌, List, [], ◌∷◌, ◌++◌, length, map, slice_get, Bool, true, Option, None, Some, ◌⊎◌, All}
 use Rattle.atomic_table.specs.Seated.{TableId}
 use Rattle.atomic_table.specs.declared.shared.Seat.{Seat}
-use Rattle.sig_flag.specs.Accounts.{account_of, known, opening_account, after_look, after_turn, after_held, plan_at}
-use Rattle.sig_flag.specs.Told.{IsHistory, IsKnown, IsState}
-use Rattle.sig_flag.specs.Words.{version_in, is_held}
+use Rattle.sig_flag.specs.Accounts.{account_of, known, opening_account, after_turn, after_held, plan_at}
+use Rattle.sig_flag.specs.Told.{IsHistory, IsKnown}
+use Rattle.sig_flag.specs.Words.{is_held}
 use Rattle.sig_flag.specs.declared.accounts.Account.{Account}
 use Rattle.sig_flag.specs.declared.accounts.Knowledge.{Knowledge}
 use Rattle.sig_flag.specs.declared.flags.Taken.{Taken}

@@ -1,5 +1,5 @@
 -- A machine's table at its start.
-use Rattle.std.specs.Prelude.{◌≡◌, ℕ, List, length, map, Option}
+use Rattle.std.specs.Prelude.{◌≡◌, List, length, map, Option}
 use Rattle.atomic_table.specs.Seated.{TableId}
 use Rattle.atomic_table.specs.declared.shared.Seat.{Seat}
 use Rattle.sig_flag.specs.Plays.{IsLeft}

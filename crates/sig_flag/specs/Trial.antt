@@ -6,7 +6,7 @@ use Rattle.sig_flag.specs.Accounts.{known}
 use Rattle.sig_flag.specs.Machines.{Machine, account, Sits, HasNoTurn, HasTurn}
 use Rattle.sig_flag.specs.declared.accounts.Account.{Account}
 use Rattle.sig_hist.specs.Histories.{ends_with_leave}
-use Rattle.sig_hist.specs.Sources.{Source, IsIn, IsSource, is_among, writers_of}
+use Rattle.sig_hist.specs.Sources.{Source, IsIn, is_among, writers_of}
 use Rattle.sig_hist.specs.declared.plans.SourcePlan.{SourcePlan}
 
 abbrev pub trial_plan : SourcePlan

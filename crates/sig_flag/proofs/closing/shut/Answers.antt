@@ -1,6 +1,6 @@
-use Rattle.std.proofs.Common.{◌≡◌, ◌∙◌, length, map, sym, arith}
+use Rattle.std.proofs.Common.{◌∙◌, sym}
 use Rattle.std.proofs.lemmas.List.{length-map}
-use Rattle.std.specs.Mem.Slots.{slots_items, slots_counts}
+use Rattle.std.specs.Mem.Slots.{slots_counts}
 use Rattle.sig_flag.proofs.Closes.{shut_without, shut_with}
 use Rattle.sig_flag.proofs.Gathers.{none_left, view_of_all}
 use Rattle.sig_flag.proofs.closing.shut.Goals as goal

@@ -1,5 +1,5 @@
-use Rattle.std.proofs.Common.{◌≡◌, ◌<◌, length, arith, rules}
-use Rattle.std.specs.Mem.Slots.{slots_items, slots_len, slots_counts}
+use Rattle.std.proofs.Common.{◌<◌, arith}
+use Rattle.std.specs.Mem.Slots.{slots_len, slots_counts}
 use Rattle.sig_flag.proofs.Empties.{is_home, emptied_one}
 use Rattle.sig_flag.proofs.closing.take_all.Goals as goal
 

@@ -1,4 +1,4 @@
-use Rattle.std.proofs.Common.{◌∙◌, ◌<◌, ap, arith}
+use Rattle.std.proofs.Common.{◌<◌, ap, arith}
 use Rattle.sig_flag.proofs.Peels.{next_account, peels, dealt_more}
 use Rattle.sig_flag.proofs.opening.deal.Goals as goal
 
