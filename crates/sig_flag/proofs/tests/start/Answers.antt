@@ -1,0 +1,44 @@
+use Rattle.std.proofs.Common.{◌≡◌, ◌∙◌, ℕ, ◌<◌, List, [], ◌∷◌, ◌++◌, length, map, slice_get, true, Option, refl, sym, ap, subst, arith}
+use Rattle.std.proofs.lemmas.List.{length_push}
+use Rattle.atomic_table.specs.declared.shared.Seat.{Seat}
+use Rattle.sig_flag.specs.Accounts.{account_of, known, opening_account}
+use Rattle.sig_flag.specs.Machines.{Machine, Has}
+use Rattle.sig_flag.specs.Trial.{trial_plan, IsReady}
+use Rattle.sig_flag.specs.declared.accounts.Account.{Account}
+use Rattle.sig_flag.specs.declared.shape.FlagShape.{FlagShape}
+use Rattle.sig_hist.specs.Histories.{ends_with_leave}
+use Rattle.sig_hist.specs.Sources.{Source, is_among, writers_of}
+use Rattle.sig_hist.specs.declared.plans.SourcePlan.{SourcePlan}
+use Rattle.sig_flag.proofs.tests.start.Goals as goal
+
+both_of : {X : Type 0} (xs more less : List X) (first second : X) → xs ≡ more ++ second ∷ [] → more ≡ less ++ first ∷ [] → length xs ≡ 2 → xs ≡ first ∷ second ∷ []
+both_of xs more [] first second xs_are more_are two = xs_are ∙ ap (λ (l : List _). l ++ second ∷ []) more_are
+both_of xs more (x ∷ less) first second xs_are more_are two =
+    let long = length_push more second in
+    let longer = length_push (x ∷ less) first in
+    absurd (omega (arith, ap length xs_are, ap length more_are))
+
+ready : (machine : Machine) (caller : ℕ) (seat : Seat (Option Source) (List Account)) → machine.plans ≡ trial_plan ∷ [] → is_among caller (writers_of trial_plan.allow) ≡ true →
+    (seat.table_id ≡ machine.id) × Has seat (opening_account machine.plans caller) [] → IsReady machine caller seat
+ready machine caller seat plans writer is =
+    let has = is.1 ∙ ap (λ (all : List SourcePlan). (opening_account all caller ∷ [], [])) plans in
+    record {
+      sits = record { at_table = is.0; one_account = ap (λ (m : List Account × List (ℕ × Option Source)). m.0) has ∙ sym (ap (λ (m : List Account × List (ℕ × Option Source)). account_of m.0 ∷ []) has) };
+      rests = record { no_turn = ap (λ (m : List Account × List (ℕ × Option Source)). (account_of m.0).turn) has; no_state = ap (λ (m : List Account × List (ℕ × Option Source)). m.1) has };
+      number = ap (λ (m : List Account × List (ℕ × Option Source)). (account_of m.0).number) has;
+      writer = subst (λ (m : List Account × List (ℕ × Option Source)). is_among caller (writers_of (known (account_of m.0) 0).plan.allow) ≡ true) (sym has) writer;
+      stays = ap (λ (m : List Account × List (ℕ × Option Source)). ends_with_leave (known (account_of m.0) 0).own) has;
+    }
+
+pub returns : goal.returns
+returns c =
+    let made = c.in_ok-flags.ensures in
+    let shape = c.in_ok-shape.ensures in
+    let plans = made.of_plans ∙ ap (map (λ (s : Source). s.plan)) c.in_ok-cells.ensures in
+    let seats = both_of _ _ _ c.in-Some-Some.first c.in-Some-Some.second c.in-Some-Some.ensures.last c.in-Some-Some.ensures'.last (made.all ∙ ap (λ (s : FlagShape). s.seats) shape) in
+    record {
+      some_source = subst (λ (all : List SourcePlan). 0 < length all) (sym plans) (omega arith);
+      of_seats = made.of_seats ∙ ap (λ (s : FlagShape). s.seats) shape;
+      zero_ready = ready _ 0 _ plans refl (made.each 0 _ (ap (λ (all : List (Seat (Option Source) (List Account))). slice_get all 0) seats));
+      one_ready = ready _ 1 _ plans refl (made.each 1 _ (ap (λ (all : List (Seat (Option Source) (List Account))). slice_get all 1) seats));
+    }

@@ -1,0 +1,129 @@
+-- What the calls of a machine ask and tell.
+use Rattle.std.specs.Prelude.{◌≡◌, ℕ, ◌<◌, ◌≤◌, List, [], ◌∷◌, ◌++◌, length, map, slice_get, Bool, true, Option, None, Some, ◌⊎◌, All}
+use Rattle.atomic_table.specs.Seated.{TableId}
+use Rattle.atomic_table.specs.declared.shared.Seat.{Seat}
+use Rattle.sig_flag.specs.Accounts.{account_of, known, opening_account, after_turn, after_held, plan_at}
+use Rattle.sig_flag.specs.Told.{IsHistory, IsKnown}
+use Rattle.sig_flag.specs.Words.{is_held}
+use Rattle.sig_flag.specs.declared.accounts.Account.{Account}
+use Rattle.sig_flag.specs.declared.accounts.Knowledge.{Knowledge}
+use Rattle.sig_flag.specs.declared.flags.Taken.{Taken}
+use Rattle.sig_flag.specs.declared.flags.Taken.TheVariants.{Turn, Held}
+use Rattle.sig_flag.specs.declared.shape.FlagShape.{FlagShape}
+use Rattle.sig_hist.specs.Histories.{IsFront, is_closed, own_entries}
+use Rattle.sig_hist.specs.Sources.{IsPlan, IsIn, IsSource, writers_of}
+use Rattle.sig_hist.specs.declared.edits.Entry.{Entry}
+use Rattle.sig_hist.specs.declared.plans.SourcePlan.{SourcePlan}
+use Rattle.sig_hist.specs.declared.ports.Version.{Version}
+
+-- a machine: its table, the plans of its sources and how many seats it has
+pub record Machine : Type 0 where
+  pub id : TableId
+  pub plans : List SourcePlan
+  pub seats : ℕ
+
+-- a table with a word and a slot for each source, beside the room for their states at the end
+pub record IsLaid {V : Type 0} (id : TableId) (sources : ℕ) (held : List V) (room : ℕ) : Type 0 where
+  pub some_source : 0 < sources
+  pub of_words : id.words ≡ sources
+  pub of_slots : id.slots ≡ sources
+  pub empty : held ≡ []
+  pub reserved : sources ≤ room
+
+module _ {V : Type 0} where
+  abbrev pub account : Seat (Option V) (List Account) → Account
+  account seat = account_of seat.me.0
+
+  -- the seat is one of the machine's
+  pub record Sits (machine : Machine) (seat : Seat (Option V) (List Account)) : Type 0 where
+    pub at_table : seat.table_id ≡ machine.id
+    pub one_account : seat.me.0 ≡ account seat ∷ []
+
+  pub record IsSameSeat (old new : Seat (Option V) (List Account)) : Type 0 where
+    pub same_table : new.table_id ≡ old.table_id
+    pub same_id : new.id ≡ old.id
+
+  -- the seat has no turn, and so no state
+  pub record HasNoTurn (seat : Seat (Option V) (List Account)) : Type 0 where
+    pub no_turn : (account seat).turn ≡ None
+    pub no_state : seat.me.1 ≡ []
+
+  -- the seat has the turn of the source, and in its slot this
+  pub record HasTurn (seat : Seat (Option V) (List Account)) (source : ℕ) (state : Option V) : Type 0 where
+    pub turn : (account seat).turn ≡ Some source
+    pub slot : seat.me.1 ≡ (source, state) ∷ []
+
+  -- all seats are back, and none has a turn. There are never more than so many, since their numbers differ
+  pub record AreBack (machine : Machine) (seats : List (Seat (Option V) (List Account))) : Type 0 where
+    pub all : machine.seats ≤ length seats
+    pub at_rest : All (λ seat. Sits machine seat × HasNoTurn seat) seats
+
+  -- the seat after a step, with this account and with this in its slots
+  abbrev pub Has : Seat (Option V) (List Account) → Account → List (ℕ × Option V) → Type 0
+  Has seat a slots = seat.me ≡ (a ∷ [], slots)
+
+-- what a look may show: no fewer entries than before, and whether they are closed where all of them were seen
+pub record IsShown (knowledge : Knowledge) (version : Version) : Type 0 where
+  pub count : knowledge.count ≤ version.count
+  pub closed : version.count ≡ length knowledge.seen → version.closed ≡ is_closed (writers_of knowledge.plan.allow) knowledge.seen
+
+-- ---- turns
+
+module _ {V : Type 0} (plan_of : V → SourcePlan) (history_of : V → List Entry) where
+  -- what a seat may rely on that gets the state of a source: it goes on from what the seat has seen, and has the seat's own entries
+  pub record IsMet (number : ℕ) (knowledge : Knowledge) (state : V) : Type 0 where
+    pub of_plan : plan_of state ≡ knowledge.plan
+    pub of_history : IsHistory knowledge.plan (history_of state)
+    pub front : IsFront knowledge.seen (history_of state)
+    pub count : knowledge.count ≤ length (history_of state)
+    pub own : knowledge.own ≡ own_entries number (history_of state)
+
+  abbrev pub IsTake : Seat (Option V) (List Account) → Seat (Option V) (List Account) → ℕ → Taken → Type 0
+  IsTake old new source Turn =
+      (state : V) × IsMet (account old).number (known (account old) source) state × Has new (after_turn (account old) source (history_of state)) ((source, Some state) ∷ [])
+  IsTake old new source (Held word) = (is_held word ≡ true) × Has new (after_held (account old) source word) []
+
+  -- one entry more, by the seat, which is a writer that hasn't left
+  pub record IsNext (number : ℕ) (plan : SourcePlan) (seen : List Entry) (entry : Entry) (history : List Entry) : Type 0 where
+    pub last : history ≡ seen ++ entry ∷ []
+    pub of_caller : entry.caller ≡ number
+    pub is_in : IsIn (record { plan = plan; history = seen }) number
+    pub sound : IsSource (record { plan = plan; history = history })
+
+  -- the turn may be given back with this state: it is as it was, or has one entry more
+  pub record MayGive (a : Account) (source count : ℕ) (closed : Bool) (state : V) : Type 0 where
+    pub of_plan : plan_of state ≡ (known a source).plan
+    pub of_history : (history_of state ≡ (known a source).seen) ⊎ ((entry : Entry) × IsNext a.number (known a source).plan (known a source).seen entry (history_of state))
+    pub of_count : count ≡ length (history_of state)
+    pub of_closed : closed ≡ is_closed (writers_of (known a source).plan.allow) (history_of state)
+
+  -- ---- the start and the end
+
+  pub record IsNew (state : V) : Type 0 where
+    pub of_plan : IsPlan (plan_of state)
+    pub no_entry : history_of state ≡ []
+
+  pub record IsShape (shape : FlagShape) (states : List V) : Type 0 where
+    pub some_source : 0 < shape.sources
+    pub some_seat : 0 < shape.seats
+    pub counted : length states ≡ shape.sources
+    pub closed : shape.closed ≡ map (λ state. is_closed (writers_of (plan_of state).allow) []) states
+    pub new : All IsNew states
+    pub no_leaves : shape.leaves ≡ []
+    pub no_tasks : shape.tasks ≡ []
+
+  pub record IsMade (shape : FlagShape) (states : List V) (machine : Machine) (seats : List (Seat (Option V) (List Account))) : Type 0 where
+    pub of_plans : machine.plans ≡ map plan_of states
+    pub of_seats : machine.seats ≡ shape.seats
+    pub all : length seats ≡ shape.seats
+    pub each : (k : ℕ) (seat : Seat (Option V) (List Account)) → slice_get seats k ≡ Some seat → (seat.table_id ≡ machine.id) × Has seat (opening_account machine.plans k) []
+
+  -- a source at the end: each seat has seen a front of its history, and knows all the entries that it made
+  pub record IsLast (seats : List (Seat (Option V) (List Account))) (source : ℕ) (plan : SourcePlan) (state : V) : Type 0 where
+    pub of_plan : plan_of state ≡ plan
+    pub of_history : IsHistory plan (history_of state)
+    pub known : All (λ seat. IsKnown (account seat).number plan (history_of state) (known (account seat) source)) seats
+
+  pub record IsEnd (machine : Machine) (seats : List (Seat (Option V) (List Account))) (states : List V) : Type 0 where
+    pub counted : length states ≡ length machine.plans
+    pub each : (source : ℕ) (state : V) → slice_get states source ≡ Some state → IsLast seats source (plan_at machine.plans source) state
