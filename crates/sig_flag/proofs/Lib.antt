@@ -1,7 +1,13 @@
+mod Closes
+mod Empties
 mod Fronts
+mod Gathers
 mod Gives
 mod Laid
 mod Looks
+mod Opens
+mod Peels
+mod Reaches
 mod Shown
 mod Stepping
 mod Takes

@@ -20,10 +20,10 @@ use Rattle.sig_hist.specs.declared.plans.SourcePlan.{SourcePlan}
 
 -- ---- functions that change at one number
 
-put_here : {X : Type 0} (f : ℕ → X) (at : ℕ) (x : X) → put f at x at ≡ x
+pub put_here : {X : Type 0} (f : ℕ → X) (at : ℕ) (x : X) → put f at x at ≡ x
 put_here f at x = ap (λ (same : Bool). cond same x (f at)) (eq-eqb at at refl)
 
-put_else : {X : Type 0} (f : ℕ → X) (at k : ℕ) (x : X) → k ≢ at → put f at x k ≡ f k
+pub put_else : {X : Type 0} (f : ℕ → X) (at k : ℕ) (x : X) → k ≢ at → put f at x k ≡ f k
 put_else f at k x other = ap (λ (same : Bool). cond same x (f k)) (ne_eqb k at other)
 
 -- what holds at the changed number, and at the others as before, holds at each
@@ -105,7 +105,7 @@ module _ (plans : List SourcePlan) (seats : ℕ) (history : ℕ → List Entry) 
 
 -- ---- the rule
 
-alone : (account found : Account) (at : ℕ) → get_elem? (account ∷ []) at ≡ slot.some found → (at ≡ 0) × (account ≡ found)
+pub alone : (account found : Account) (at : ℕ) → get_elem? (account ∷ []) at ≡ slot.some found → (at ≡ 0) × (account ≡ found)
 alone account found zero is = (refl, some-injective account found is)
 alone account found (suc at) is = absurd (some-ne-none found (sym is))
 

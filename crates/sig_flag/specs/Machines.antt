@@ -53,9 +53,9 @@ module _ {V : Type 0} where
     pub turn : (account seat).turn ≡ Some source
     pub slot : seat.me.1 ≡ (source, state) ∷ []
 
-  -- all seats are back, and none has a turn
+  -- all seats are back, and none has a turn. There are never more than so many, since their numbers differ
   pub record AreBack (machine : Machine) (seats : List (Seat (Option V) (List Account))) : Type 0 where
-    pub all : length seats ≡ machine.seats
+    pub all : machine.seats ≤ length seats
     pub at_rest : All (λ seat. Sits machine seat × HasNoTurn seat) seats
 
   -- the seat after a step, with this account and with this in its slots

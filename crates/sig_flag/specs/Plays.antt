@@ -1,8 +1,10 @@
 -- What each step on a table tells its seat. A step's word is the source's number.
-use Rattle.std.specs.Prelude.{◌≡◌, ◌<◌, ◌/◌, ◌^◌, ℕ, List, [], ◌∷◌, Bool, true, false, Option, Some}
+use Rattle.std.specs.Prelude.{◌≡◌, ◌<◌, ◌/◌, ◌^◌, ℕ, List, [], ◌∷◌, ◌++◌, slice_get, true, false, Option, Some}
+use Rattle.atomic_table.specs.Seated.{TableId}
 use Rattle.atomic_table.specs.Table.{Me, Step}
-use Rattle.sig_flag.specs.Accounts.{account_of, known, after_look, after_turn, after_held, after_give}
-use Rattle.sig_flag.specs.Machines.{IsShown, IsMet}
+use Rattle.atomic_table.specs.declared.shared.Seat.{Seat}
+use Rattle.sig_flag.specs.Accounts.{accounts_from, opening_account, account_of, known, after_look, after_turn, after_held, after_give}
+use Rattle.sig_flag.specs.Machines.{IsShown, IsMet, Has}
 use Rattle.sig_flag.specs.Words.{version_in, is_held}
 use Rattle.sig_flag.specs.declared.accounts.Account.{Account}
 use Rattle.sig_hist.specs.declared.edits.Entry.{Entry}
@@ -10,6 +12,35 @@ use Rattle.sig_hist.specs.declared.plans.SourcePlan.{SourcePlan}
 
 abbrev pub Seated : Type 0 → Type 0
 Seated V = Me (Option V) (List Account)
+
+-- ---- the start and the end
+
+-- the first account goes to a seat of its own
+abbrev pub first_alone : List Account → List Account
+first_alone [] = []
+first_alone (account ∷ accounts) = account ∷ []
+
+abbrev pub all_others : List Account → List Account
+all_others [] = []
+all_others (account ∷ accounts) = accounts
+
+-- another seat's accounts go in front of one's own
+abbrev pub with_others : List Account → List Account → List Account
+with_others accounts others = others ++ accounts
+
+abbrev pub no_account : List Account
+no_account = []
+
+-- the seat that has the accounts of this number and above, and the seats that were made before it
+module _ {V : Type 0} (id : TableId) (plans : List SourcePlan) where
+  pub record IsLeft (first seats : ℕ) (seat : Seat (Option V) (List Account)) : Type 0 where
+    pub at_table : seat.table_id ≡ id
+    pub has : seat.me ≡ (accounts_from plans first seats, [])
+
+  pub record AreDealt (seats : List (Seat (Option V) (List Account))) : Type 0 where
+    pub each : (k : ℕ) (seat : Seat (Option V) (List Account)) → slice_get seats k ≡ Some seat → (seat.table_id ≡ id) × Has seat (opening_account plans k) []
+
+-- ---- the steps
 
 module _ {V : Type 0} where
   -- a seat has one account, and these slots

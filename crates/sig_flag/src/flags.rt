@@ -3,11 +3,13 @@ ghost use Rattle.sig_flag.specs.Accounts.{known, after_look, after_give};
 ghost use Rattle.sig_flag.specs.Machines.{account, Sits, IsSameSeat, HasNoTurn, HasTurn, Has, IsShown, IsTake, MayGive, IsShape, IsMade, AreBack, IsEnd};
 
 use crate::accounts::Account;
+use crate::closing::{shut, take_all};
+use crate::opening::{deal, open};
 use crate::plays::{Give, Look, Take};
 use crate::rule::{FlagKey, ToldRule};
 use crate::shape::FlagShape;
 use crate::words::{is_held, version_in, word_of};
-use atomic_table::{Seat, Table};
+use atomic_table::{Seat, Shared, Table};
 use sig_diff::{Items, NoMemory};
 use sig_hist::{Kept, Version};
 use std::alloc::Global;
@@ -24,6 +26,12 @@ pub type FlagSeats<V> = Items<FlagSeat<V>>;
 /// Whether each task is to be polled.
 pub type ReadyList = Items<bool>;
 
+/// The words and the slots of a machine.
+pub type FlagTable<V> = Table<Option<V>, [Account; 0], FlagKey<V>, ToldRule<V>, Global>;
+
+/// What the seats step on.
+pub type FlagShared<V> = Shared<Option<V>, [Account; 0], FlagKey<V>, ToldRule<V>>;
+
 /// What came of a take.
 #[derive(Debug, Clone, Copy, PartialEq, Eq)]
 pub enum Taken {
@@ -36,7 +44,7 @@ pub enum Taken {
 /// Sources with states `V` that seats edit in turns. A seat that has a source's turn has its state, and gives both back.
 #[derive(Drop)]
 pub struct Flags<V: Kept> {
-    table: Table<Option<V>, [Account; 0], FlagKey<V>, ToldRule<V>, Global>,
+    table: FlagTable<V>,
     /// The room for the states at the end.
     room: Vec<V>,
 }
@@ -63,7 +71,11 @@ impl<V: Kept> Flags<V> {
         requires { IsShape V.plan V.history shape states }
         ensures { IfOk result (λ made. IsMade V.plan V.history shape states made.0 made.1) }
     {
-        unreachable!()
+        let count = shape.seats;
+        let room = Vec::with_capacity(alloc, states.len())?;
+        let (table, first) = open(alloc, shape, states)?;
+        let seats = deal(alloc, &table.shared, first, count)?;
+        Ok((Flags { table, room }, seats))
     }
 
     /// What the source's word shows: how many entries it has and whether it is closed. No entry is seen by it.
@@ -131,6 +143,9 @@ impl<V: Kept> Flags<V> {
         ensures states { IsEnd V.plan V.history self seats result.0 }
         ensures ready { result.1 ≡ [] }
     {
-        unreachable!()
+        let Flags { table, room } = self;
+        let ready = Items::new(*room.allocator());
+        let closed = shut(table, seats);
+        (Items::from_vec(take_all(closed, room)), ready)
     }
 }

@@ -3,7 +3,9 @@
 #![tactic(auto)]
 
 mod accounts;
+mod closing;
 mod flags;
+mod opening;
 mod plays;
 mod rule;
 mod shape;

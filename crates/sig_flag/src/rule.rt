@@ -6,6 +6,7 @@ use std::marker::PhantomData;
 use std::snapshot::Snapshot;
 
 /// What a machine is told once, when it is made.
+#[derive(Drop)]
 pub struct FlagKey<V> {
     /// The states of the sources at the start.
     pub states: Snapshot<Items<V>>,
