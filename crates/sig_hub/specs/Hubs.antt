@@ -1,14 +1,8 @@
--- A hub with its passes, from its start to its end.
-use Rattle.std.specs.Prelude.{◌≡◌, ℕ, ◌+◌, ◌<◌, ◌≤◌, List, length, slice_get, Option, Some, All}
-use Rattle.sig_flag.specs.Accounts.{known, opening_account, plan_at}
+-- A hub, and its passes at the start.
+use Rattle.std.specs.Prelude.{◌≡◌, ℕ, ◌+◌, ◌^◌, ◌<◌, List, length, slice_get, Some}
+use Rattle.sig_flag.specs.Accounts.{opening_account}
 use Rattle.sig_flag.specs.Machines.{Machine}
-use Rattle.sig_flag.specs.Told.{IsHistory, IsKnown}
-use Rattle.sig_hist.specs.Sources.{Source}
-use Rattle.sig_hist.specs.declared.plans.SourcePlan.{SourcePlan}
 use Rattle.sig_hub.specs.Passes.{Pass}
-use Rattle.sig_hub.specs.declared.ending.FinishError.{FinishError}
-use Rattle.sig_hub.specs.declared.ending.FinishError.TheVariants.{Outstanding, NoMemory}
-use Rattle.sig_hub.specs.declared.ending.Returned.{Returned}
 use Rattle.sig_hub.specs.declared.hub.Passes.{Passes}
 use Rattle.sig_hub.specs.declared.plans.HubPlan.{HubPlan}
 
@@ -21,6 +15,7 @@ pub record HubState : Type 0 where
 pub record IsHub (hub : HubState) : Type 0 where
   pub words : hub.machine.id.words ≡ length hub.machine.plans
   pub seats : hub.machine.seats ≡ hub.writers + hub.pollers
+  pub few : hub.writers + hub.pollers < 2 ^ 32
 
 -- ---- the start
 
@@ -39,32 +34,3 @@ pub record IsMade (plan : HubPlan) (hub : HubState) (passes : Passes) : Type 0 w
   pub of_pollers : hub.pollers ≡ plan.pollers
   pub writers : AreNew hub 0 plan.writers passes.writers
   pub pollers : AreNew hub plan.writers plan.pollers passes.pollers
-
--- ---- the end
-
-abbrev pub IsOf : HubState → Pass → Type 0
-IsOf hub pass = pass.hub ≡ hub.machine.id
-
-pub record AreOf (hub : HubState) (back : Returned) : Type 0 where
-  pub left : All (IsOf hub) back.left
-  pub pollers : All (IsOf hub) back.pollers
-
--- what the pass knows of the source is of this history: it has seen a front of it, and knows all the entries that it made itself
-abbrev pub Knew : ℕ → SourcePlan → Source → Pass → Type 0
-Knew source plan state pass = IsKnown pass.account.number plan state.history (known pass.account source)
-
-pub record IsLast (back : Returned) (source : ℕ) (plan : SourcePlan) (state : Source) : Type 0 where
-  pub of_plan : state.plan ≡ plan
-  pub history : IsHistory plan state.history
-  pub left : All (Knew source plan state) back.left
-  pub pollers : All (Knew source plan state) back.pollers
-
-pub record IsFinished (hub : HubState) (back : Returned) (states : List Source) : Type 0 where
-  pub all : length states ≡ length hub.machine.plans
-  pub each : (source : ℕ) (state : Source) → slice_get states source ≡ Some state → IsLast back source (plan_at hub.machine.plans source) state
-
--- why a hub isn't finished: fewer passes were given back than were made, or memory was wanting. All comes back
-abbrev pub IsRefusal : HubState → Returned → FinishError → Type 0
-IsRefusal hub back (Outstanding made given same_hub same_back) =
-    (made ≡ hub.writers + hub.pollers) × (given ≡ length back.left + length back.pollers) × (given < made) × (same_hub ≡ hub) × (same_back ≡ back)
-IsRefusal hub back (NoMemory same_hub same_back) = (hub.writers + hub.pollers ≤ length back.left + length back.pollers) × (same_hub ≡ hub) × (same_back ≡ back)

@@ -1,3 +1,4 @@
+pub mod Ends
 pub mod Hubs
 pub mod Passes
 pub mod Plans

@@ -1,6 +1,5 @@
 -- What a pass knows of the hub's sources, and what its calls change of that.
-use Rattle.std.specs.Prelude.{◌≡◌, ◌≢◌, ℕ, ◌<◌, ◌==◌, List, [], ◌∷◌, ◌++◌, length, Bool, true, false, not, ◌&&◌, Option, None, All}
-use Rattle.std.specs.List.{list_any}
+use Rattle.std.specs.Prelude.{◌≡◌, ◌≢◌, ℕ, ◌<◌, List, [], ◌∷◌, ◌++◌, length, take, slice_get, Bool, true, false, not, ◌&&◌, Option, Some, All}
 use Rattle.atomic_table.specs.Seated.{TableId}
 use Rattle.atomic_table.specs.declared.shared.Seat.{Seat}
 use Rattle.sig_flag.specs.Accounts.{known}
@@ -47,9 +46,11 @@ pub record IsAtRest (seat : Seat (Option Source) (List Account)) (number : ℕ) 
 abbrev pub is_in : Pass → ℕ → Bool
 is_in pass source = is_among pass.account.number (writers_of (plan_in pass source).allow) && not (ends_with_leave (own pass source))
 
+-- the sources that the pass is in, each once
 pub record AreThoseToLeave (pass : Pass) (sources : List ℕ) : Type 0 where
   pub within : All (λ source. source < pass.hub.words) sources
-  pub each : (source : ℕ) → is_in pass source ≡ list_any (λ other. other == source) sources
+  pub each : (source : ℕ) → is_in pass source ≡ is_among source sources
+  pub once : (place source : ℕ) → slice_get sources place ≡ Some source → is_among source (take place sources) ≡ false
 
 -- ---- edits
 
@@ -66,14 +67,14 @@ pub record IsSamePass (old new : Pass) (source : ℕ) : Type 0 where
 -- the pass has made an entry: it is the last of its own, and stands in a legal history behind all that the pass had seen
 pub record HasMade (old new : Pass) (source : ℕ) (entry : Entry) : Type 0 where
   pub before : List Entry
-  pub own : own new source ≡ own old source ++ entry ∷ []
-  pub seen : seen new source ≡ before ++ entry ∷ []
+  pub of_own : own new source ≡ own old source ++ entry ∷ []
+  pub of_seen : seen new source ≡ before ++ entry ∷ []
   pub front : IsFront (seen old source) before
   pub history : IsHistory (plan_in old source) (seen new source)
 
 -- nothing was made. More may have been seen
 pub record HasMadeNone (old new : Pass) (source : ℕ) : Type 0 where
-  pub own : own new source ≡ own old source
+  pub of_own : own new source ≡ own old source
   pub front : IsFront (seen old source) (seen new source)
 
 abbrev pub IsRefused : Pass → ℕ → EditError → Type 0

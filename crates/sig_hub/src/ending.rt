@@ -1,5 +1,5 @@
 ghost use Rattle.std.specs.Prelude.{◌≡◌, IfOk, IfErr};
-ghost use Rattle.sig_hub.specs.Hubs.{AreOf, IsFinished, IsRefusal};
+ghost use Rattle.sig_hub.specs.Ends.{AreOf, IsFinished, IsRefusal};
 
 use crate::hub::Hub;
 use crate::passes::{Lefts, PollPasses};

@@ -1,4 +1,4 @@
-ghost use Rattle.std.specs.Prelude.{◌≡◌, ◌<◌, length, false, IfOk, IfErr};
+ghost use Rattle.std.specs.Prelude.{◌≡◌, ◌<◌, [], length, false, IfOk, IfErr};
 ghost use Rattle.sig_hist.specs.Histories.{is_leave};
 ghost use Rattle.sig_hub.specs.Hubs.{IsMade};
 ghost use Rattle.sig_hub.specs.Passes.{Writes, IsSamePass, HasMade, HasMadeNone, IsRefused, HasLeft};
