@@ -2,3 +2,4 @@ pub mod Ends
 pub mod Hubs
 pub mod Passes
 pub mod Plans
+pub mod Turns

@@ -2,10 +2,12 @@
 //! one legal history, in which every writer's edits stand once and in order.
 #![tactic(auto)]
 
+mod editing;
 mod ending;
 mod hub;
 mod passes;
 mod plans;
+mod turns;
 
 pub use ending::{Closed, FinishError, Returned};
 pub use hub::{Hub, Passes};
