@@ -48,7 +48,7 @@ known_source (first ∷ knows) (suc source) number is = omega (arith, known_sour
 pub writes_known : (pass : Pass) (source : ℕ) → Writes pass source → source < length pass.account.knows
 writes_known pass source writes = known_source pass.account.knows source pass.account.number (and_parts _ _ writes).0
 
-not_true : (b : Bool) → not b ≡ true → b ≡ false
+pub not_true : (b : Bool) → not b ≡ true → b ≡ false
 not_true true is = sym is
 not_true false is = refl
 

@@ -4,9 +4,10 @@ ghost use Rattle.sig_hub.specs.Hubs.{IsMade};
 ghost use Rattle.sig_hub.specs.Passes.{Writes, IsSamePass, HasMade, HasMadeNone, IsRefused, HasLeft};
 ghost use Rattle.sig_hub.specs.Plans.{IsSound};
 
+use crate::editing::edit_in_turn;
 use crate::passes::{Left, PollPasses, WriterPass, WriterPasses};
 use crate::plans::HubPlan;
-use sig_diff::NoMemory;
+use sig_diff::{NoMemory, TryCopy};
 use sig_flag::Flags;
 use sig_hist::{Edit, EditError, Reply, SourceState};
 use std::alloc::Global;
@@ -17,9 +18,9 @@ use std::sync::Wait;
 #[derive(Drop)]
 pub struct Hub {
     alloc: Global,
-    flags: Flags<SourceState>,
-    writers: u32,
-    pollers: u32,
+    pub(crate) flags: Flags<SourceState>,
+    pub(crate) writers: u32,
+    pub(crate) pollers: u32,
 }
 
 impl Model for Hub {
@@ -68,7 +69,15 @@ impl Hub {
         ensures ok { IfOk result (λ reply. HasMade pass.old pass.new source (record { caller = pass.old.account.number; edit = edit.now; reply = reply })) }
         ensures err { IfErr result (λ error. HasMadeNone pass.old pass.new source × IsRefused pass.old source error) }
     {
-        unreachable!()
+        let edit = edit.copy()?;
+        edit_in_turn(
+            rt,
+            &self.flags,
+            &mut pass.seat,
+            pass.number,
+            source,
+            &edit,
+        )
     }
 
     /// Leaves each of the pass's sources that it hasn't left, in rising order. It takes no memory.

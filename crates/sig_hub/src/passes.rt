@@ -6,10 +6,10 @@ use std::marker::Model;
 /// What a writer edits the hub's sources with.
 #[derive(Drop)]
 pub struct WriterPass {
-    seat: FlagSeat<SourceState>,
-    number: u32,
+    pub(crate) seat: FlagSeat<SourceState>,
+    pub(crate) number: u32,
     /// The sources that it writes and hasn't left, in rising order.
-    sources: Vec<usize>,
+    pub(crate) sources: Vec<usize>,
 }
 
 impl Model for WriterPass {
@@ -27,8 +27,8 @@ pub type WriterPasses = Items<WriterPass>;
 /// What a poller looks at the hub's sources with.
 #[derive(Drop)]
 pub struct PollPass {
-    seat: FlagSeat<SourceState>,
-    number: u32,
+    pub(crate) seat: FlagSeat<SourceState>,
+    pub(crate) number: u32,
 }
 
 impl Model for PollPass {
@@ -46,8 +46,8 @@ pub type PollPasses = Items<PollPass>;
 /// A writer's pass that has left all its sources. It keeps the writer's own entries.
 #[derive(Drop)]
 pub struct Left {
-    seat: FlagSeat<SourceState>,
-    number: u32,
+    pub(crate) seat: FlagSeat<SourceState>,
+    pub(crate) number: u32,
 }
 
 impl Model for Left {
