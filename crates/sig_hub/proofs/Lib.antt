@@ -1,3 +1,4 @@
 pub mod Entered
 pub mod InTurn
+pub mod Leaving
 pub mod StillIn

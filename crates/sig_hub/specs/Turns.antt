@@ -1,15 +1,15 @@
 -- What the seat of a pass goes through in the turn of a source.
-use Rattle.std.specs.Prelude.{◌≡◌, ◌≢◌, ℕ, List, [], ◌∷◌, length, Option, ◌⊎◌}
+use Rattle.std.specs.Prelude.{◌≡◌, ◌≢◌, ℕ, List, [], ◌∷◌, length, take, Option, ◌⊎◌}
 use Rattle.atomic_table.specs.declared.shared.Seat.{Seat}
 use Rattle.sig_flag.specs.Accounts.{known, after_turn, after_give}
 use Rattle.sig_flag.specs.Machines.{account, Has, IsMet, IsNext, IsSameSeat}
 use Rattle.sig_flag.specs.declared.accounts.Account.{Account}
 use Rattle.sig_hist.specs.Histories.{own_entries}
-use Rattle.sig_hist.specs.Sources.{Source}
+use Rattle.sig_hist.specs.Sources.{Source, is_among}
 use Rattle.sig_hist.specs.declared.edits.Entry.{Entry}
 use Rattle.sig_hist.specs.declared.plans.SourcePlan.{SourcePlan}
 use Rattle.sig_hist.specs.declared.ports.Met.{Met}
-use Rattle.sig_hub.specs.Passes.{IsAtRest}
+use Rattle.sig_hub.specs.Passes.{pass_of, IsAtRest, LeavesOne}
 
 abbrev pub PassSeat : Type 0
 PassSeat = Seat (Option Source) (List Account)
@@ -49,3 +49,10 @@ pub record IsAfter (number : ℕ) (old new : PassSeat) (source : ℕ) (history :
   pub same_number : (account new).number ≡ (account old).number
   pub here : known (account new) source ≡ record { plan = (known (account old) source).plan; seen = history; count = length history; own = own_entries number history }
   pub others : (other : ℕ) → other ≢ source → known (account new) other ≡ known (account old) other
+
+-- a seat's pass has left the first of its sources, so many
+pub record IsLeaving (number : ℕ) (old new : PassSeat) (sources : List ℕ) (place : ℕ) : Type 0 where
+  pub at_rest : IsAtRest new number
+  pub hub : new.table_id ≡ old.table_id
+  pub same_number : (account new).number ≡ (account old).number
+  pub each : (source : ℕ) → LeavesOne (is_among source (take place sources)) (pass_of old) (pass_of new) source

@@ -2,7 +2,7 @@
 ghost use Rattle.std.specs.Prelude.{◌≡◌, ◌<◌, length, false, IfOk, IfErr};
 ghost use Rattle.sig_flag.specs.Machines.{account, Sits, HasNoTurn};
 ghost use Rattle.sig_hist.specs.Histories.{is_leave};
-ghost use Rattle.sig_hub.specs.Passes.{pass_of, leave_by, Writes, IsAtRest, IsSamePass, HasMade, HasMadeNone, IsRefused};
+ghost use Rattle.sig_hub.specs.Passes.{pass_of, leave_by, Writes, IsAtRest, IsSamePass, HasMade, HasMadeNone, IsRefused, AreThoseToLeave, HasLeft};
 
 use crate::turns::{HubFlags, HubSeat, begin, end};
 use sig_hist::{Edit, EditError, Reply};
@@ -54,4 +54,24 @@ pub fn leave_in_turn<R: Wait>(
     let mut state = begin(rt, flags, seat, source);
     state.leave(number);
     end(flags, seat, source, state);
+}
+
+/// Leaves all sources that the seat's pass is in, in their order.
+pub fn leave_all<R: Wait>(
+    rt: &R,
+    flags: &HubFlags,
+    seat: &mut HubSeat,
+    number: u32,
+    sources: &[usize],
+)
+    requires hub { seat.old.table_id ≡ flags.now.id }
+    requires words { flags.now.id.words ≡ length flags.now.plans }
+    requires rests { IsAtRest seat.old number }
+    requires sources { AreThoseToLeave (pass_of seat.old) sources.now }
+    ensures rests { IsAtRest seat.new number }
+    ensures left { HasLeft (pass_of seat.old) (pass_of seat.new) }
+{
+    'sources: for source in sources {
+        leave_in_turn(rt, flags, seat, number, *source);
+    }
 }

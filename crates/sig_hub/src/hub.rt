@@ -4,7 +4,7 @@ ghost use Rattle.sig_hub.specs.Hubs.{IsMade};
 ghost use Rattle.sig_hub.specs.Passes.{Writes, IsSamePass, HasMade, HasMadeNone, IsRefused, HasLeft};
 ghost use Rattle.sig_hub.specs.Plans.{IsSound};
 
-use crate::editing::edit_in_turn;
+use crate::editing::{edit_in_turn, leave_all};
 use crate::passes::{Left, PollPasses, WriterPass, WriterPasses};
 use crate::plans::HubPlan;
 use sig_diff::{NoMemory, TryCopy};
@@ -85,6 +85,12 @@ impl Hub {
         requires hub { pass.hub ≡ self.now.machine.id }
         ensures { HasLeft pass result }
     {
-        unreachable!()
+        let WriterPass {
+            mut seat,
+            number,
+            sources,
+        } = pass;
+        leave_all(rt, &self.flags, &mut seat, number, sources.as_slice());
+        Left { seat, number }
     }
 }
