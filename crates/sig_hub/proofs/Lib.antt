@@ -1,4 +1,5 @@
 pub mod Entered
+pub mod Gathered
 pub mod InTurn
 pub mod Leaving
 pub mod StillIn

@@ -2,4 +2,5 @@ pub mod Ends
 pub mod Hubs
 pub mod Passes
 pub mod Plans
+pub mod Seats
 pub mod Turns

@@ -17,7 +17,7 @@ use std::sync::Wait;
 /// Sources that several threads edit, each with a pass of its own.
 #[derive(Drop)]
 pub struct Hub {
-    alloc: Global,
+    pub(crate) alloc: Global,
     pub(crate) flags: Flags<SourceState>,
     pub(crate) writers: u32,
     pub(crate) pollers: u32,
