@@ -3,7 +3,6 @@ use Rattle.std.proofs.Common.{◌≡◌, ◌∙◌, ℕ, ◌+◌, ◌<◌, ◌�
 use Rattle.std.proofs.lemmas.Bool.{eqb-true, eqb-false, or_right}
 use Rattle.std.proofs.lemmas.List.Folds.{list_any_more, list_any_at}
 use Rattle.std.proofs.lemmas.List.{take_all}
-use Rattle.std.proofs.lemmas.Option.{slice_get-get_or}
 use Rattle.sig_flag.specs.Accounts.{known}
 use Rattle.sig_flag.specs.Machines.{account}
 use Rattle.sig_flag.specs.Told.{IsHistory}
@@ -46,7 +45,7 @@ module _ (number : ℕ) (old : PassSeat) (sources : List ℕ) (those : AreThoseT
 
   module _ (mid : PassSeat) (place : ℕ) (leaving : IsLeaving number old mid sources place) (more : place < length sources) where
     unknown : known (account mid) (get_or sources place 0) ≡ known (account old) (get_or sources place 0)
-    unknown = subst (λ (left : Bool). LeavesOne left (pass_of old) (pass_of mid) (get_or sources place 0)) (those.once place (get_or sources place 0) (slice_get-get_or sources place 0 more)) (leaving.each (get_or sources place 0))
+    unknown = subst (λ (left : Bool). LeavesOne left (pass_of old) (pass_of mid) (get_or sources place 0)) (those.once place more) (leaving.each (get_or sources place 0))
 
     pub writes_next : Writes (pass_of mid) (get_or sources place 0)
     writes_next =

@@ -2,4 +2,5 @@ pub mod Entered
 pub mod Gathered
 pub mod InTurn
 pub mod Leaving
+pub mod Started
 pub mod StillIn

@@ -3,4 +3,5 @@ pub mod Hubs
 pub mod Passes
 pub mod Plans
 pub mod Seats
+pub mod Starting
 pub mod Turns

@@ -1,5 +1,5 @@
 -- What a pass knows of the hub's sources, and what its calls change of that.
-use Rattle.std.specs.Prelude.{◌≡◌, ◌≢◌, ℕ, ◌<◌, List, [], ◌∷◌, ◌++◌, length, take, slice_get, Bool, true, false, not, ◌&&◌, Option, Some, All}
+use Rattle.std.specs.Prelude.{◌≡◌, ◌≢◌, ℕ, ◌<◌, List, [], ◌∷◌, ◌++◌, length, take, slice_index, Bool, true, false, not, ◌&&◌, Option, All}
 use Rattle.atomic_table.specs.Seated.{TableId}
 use Rattle.atomic_table.specs.declared.shared.Seat.{Seat}
 use Rattle.sig_flag.specs.Accounts.{known}
@@ -50,7 +50,7 @@ is_in pass source = is_among pass.account.number (writers_of (plan_in pass sourc
 pub record AreThoseToLeave (pass : Pass) (sources : List ℕ) : Type 0 where
   pub within : All (λ source. source < pass.hub.words) sources
   pub each : (source : ℕ) → is_in pass source ≡ is_among source sources
-  pub once : (place source : ℕ) → slice_get sources place ≡ Some source → is_among source (take place sources) ≡ false
+  pub once : (place : ℕ) → place < length sources → is_among (slice_index sources place) (take place sources) ≡ false
 
 -- ---- edits
 

@@ -7,6 +7,7 @@ mod ending;
 mod hub;
 mod passes;
 mod plans;
+mod starting;
 mod turns;
 
 pub use ending::{Closed, FinishError, Returned};
