@@ -2,5 +2,6 @@ pub mod Entered
 pub mod Gathered
 pub mod InTurn
 pub mod Leaving
+pub mod Seated
 pub mod Started
 pub mod StillIn

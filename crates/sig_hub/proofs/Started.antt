@@ -146,3 +146,49 @@ module _ (hub : HubState) (sound : IsHub hub) (number : ℕ) (seat : PassSeat) (
         each = λ source. ap (λ (k : Knowledge). is_among number (writers_of k.plan.allow) && not (ends_with_leave k.own)) (known_new plans source) ∙ and_true _ ∙ written_all plans number sources are source;
         once = are.once;
       })
+
+-- ---- passes with seats, one after another
+
+-- so far so many drafts and seats were used
+pub record AreStarting (hub : HubState) (first : ℕ) (seats_before seats : List PassSeat) (passes : List Pass) : Type 0 where
+  pub seats_are : AreNewSeats hub.machine (first + length passes) seats
+  pub passes_are : AreNewPasses hub first passes
+  pub counted : length passes + length seats ≡ length seats_before
+
+pub none_started : (hub : HubState) (first : ℕ) (seats before : List PassSeat) (passes : List Pass) → passes ≡ [] → seats ≡ before → AreNewSeats hub.machine first before → AreStarting hub first before seats passes
+none_started hub first seats before passes none same are =
+    subst (λ (p : List Pass). AreStarting hub first before seats p) (sym none) (record {
+      seats_are = subst (λ (n : ℕ). AreNewSeats hub.machine n seats) (omega arith) (subst (AreNewSeats hub.machine first) (sym same) are);
+      passes_are = tt;
+      counted = omega (arith, ap length same);
+    })
+
+-- the next seat is new
+pub next_seat : (hub : HubState) (first : ℕ) (before seats others : List PassSeat) (passes : List Pass) (seat : PassSeat) → AreStarting hub first before seats passes → seats ≡ seat ∷ others → IsNewSeat hub.machine (first + length passes) seat
+next_seat hub first before seats others passes seat are is = (subst (AreNewSeats hub.machine (first + length passes)) is are.seats_are).0
+
+pub started_more : (hub : HubState) (first : ℕ) (before seats others : List PassSeat) (passes after : List Pass) (seat : PassSeat) (pass : Pass) → AreStarting hub first before seats passes → seats ≡ seat ∷ others → pass_of seat ≡ pass → after ≡ passes ++ pass ∷ [] →
+    IsHub hub → AreStarting hub first before others after
+started_more hub first before seats others passes after seat pass are is view pushed sound =
+    let new = subst (AreNewSeats hub.machine (first + length passes)) is are.seats_are in
+    let pass_new : pass ≡ new_pass hub (first + length passes) = sym view ∙ pass_is hub sound (first + length passes) seat new.0 in
+    let longer : length after ≡ length passes + 1 = omega (arith, ap length pushed, length_push passes pass) in
+    record {
+      seats_are = subst (λ (n : ℕ). AreNewSeats hub.machine n others) (omega arith) new.1;
+      passes_are = subst (AreNewPasses hub first) (sym pushed) (passes_push hub first passes pass are.passes_are pass_new);
+      counted = omega (arith, are.counted, ap length is);
+    }
+
+-- a writer's pass, with the next draft and the next seat
+module _ (hub : HubState) (before seats others : List PassSeat) (passes : List Pass) (drafts rest : List Draft) (draft : Draft) (seat : PassSeat) (sound : IsHub hub) (starting : AreStarting hub 0 before seats passes)
+    (are : AreDrafts hub.machine.plans (length passes) drafts) (next_is : seats ≡ seat ∷ others) (draft_is : drafts ≡ draft ∷ rest) where
+  split : IsDraft hub.machine.plans (length passes) draft × AreDrafts hub.machine.plans (suc (length passes)) rest
+  split = subst (AreDrafts hub.machine.plans (length passes)) draft_is are
+
+  pub is_writer : IsAtRest seat draft.number × AreThoseToLeave (pass_of seat) draft.sources.items
+  is_writer =
+      let new : IsNewSeat hub.machine (length passes) seat = subst (λ (n : ℕ). IsNewSeat hub.machine n seat) (zero-add (length passes)) (next_seat hub 0 before seats others passes seat starting next_is) in
+      (rests_new hub sound (length passes) seat new draft.number split.0.of_number, leaves_new hub sound (length passes) seat new draft.sources.items split.0.of_sources)
+
+  pub other_drafts : (after : List Pass) → after ≡ passes ++ pass_of seat ∷ [] → AreDrafts hub.machine.plans (length after) rest
+  other_drafts after pushed = subst (λ (n : ℕ). AreDrafts hub.machine.plans n rest) (omega (arith, ap length pushed, length_push passes (pass_of seat))) split.1

@@ -41,3 +41,11 @@ AreNewSeats machine first (seat ∷ seats) = IsNewSeat machine first seat × Are
 abbrev pub AreNewPasses : HubState → ℕ → List Pass → Type 0
 AreNewPasses hub first [] = Unit {0}
 AreNewPasses hub first (pass ∷ passes) = (pass ≡ new_pass hub first) × AreNewPasses hub (suc first) passes
+
+-- a machine of these sources, and all its seats
+pub record IsSeated (plans : List SourcePlan) (count : ℕ) (machine : Machine) (seats : List PassSeat) : Type 0 where
+  pub of_plans : machine.plans ≡ plans
+  pub of_words : machine.id.words ≡ length plans
+  pub of_seats : machine.seats ≡ count
+  pub counted : length seats ≡ count
+  pub new : AreNewSeats machine 0 seats

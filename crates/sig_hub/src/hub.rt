@@ -7,6 +7,7 @@ ghost use Rattle.sig_hub.specs.Plans.{IsSound};
 use crate::editing::{edit_in_turn, leave_all};
 use crate::passes::{Left, PollPasses, WriterPass, WriterPasses};
 use crate::plans::HubPlan;
+use crate::starting::{drafts_of, flags_of};
 use sig_diff::{NoMemory, TryCopy};
 use sig_flag::Flags;
 use sig_hist::{Edit, EditError, Reply, SourceState};
@@ -48,7 +49,22 @@ impl Hub {
         requires no_tasks { plan.tasks ≡ [] }
         ensures { IfOk result (λ made. IsMade plan made.0 made.1) }
     {
-        unreachable!()
+        let HubPlan {
+            sources,
+            pollers,
+            writers,
+            ..
+        } = plan;
+        let drafts = drafts_of(alloc, sources.as_slice(), writers)?;
+        let (flags, seats) = flags_of(alloc, sources, writers + pollers)?;
+        let hub = Hub {
+            alloc,
+            flags,
+            writers,
+            pollers,
+        };
+        let passes = hub.passes(seats, drafts)?;
+        Ok((hub, passes))
     }
 
     /// Makes an edit of a source, once the pass gets its turn. The entry stands in the source's history after all that the

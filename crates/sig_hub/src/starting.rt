@@ -1,17 +1,17 @@
 //! How a hub is made: the states of its sources, and a pass for each seat.
-ghost use Rattle.std.specs.Prelude.{◌≡◌, ◌==◌, ◌+◌, ◌^◌, ◌<◌, ◌≤◌, length, map, All, IfOk, OnOk};
+ghost use Rattle.std.specs.Prelude.{◌≡◌, ◌==◌, [], ◌+◌, ◌^◌, ◌<◌, ◌≤◌, length, map, All, IfOk, OnOk};
 ghost use Rattle.std.specs.List.{list_any};
 ghost use Rattle.std.specs.Vec.Iter.{into_iter_items};
 ghost use Rattle.sig_hist.specs.OneThread.{source_of};
 ghost use Rattle.sig_hist.specs.Sources.{IsPlan};
 ghost use Rattle.sig_hub.specs.Hubs.{AreNew};
-ghost use Rattle.sig_hub.specs.Starting.{has_closed, AreWritten, AreDrafts, AreNewSeats};
+ghost use Rattle.sig_hub.specs.Starting.{has_closed, AreWritten, AreDrafts, AreNewSeats, IsSeated};
 
-use crate::hub::Hub;
+use crate::hub::{Hub, Passes};
 use crate::passes::{PollPass, PollPasses, WriterPass, WriterPasses};
-use crate::turns::HubSeat;
+use crate::turns::{HubFlags, HubSeat};
 use sig_diff::{Items, NoMemory};
-use sig_flag::States;
+use sig_flag::{FlagSeats, FlagShape, Flags, States};
 use sig_hist::{Allowance, Kept, Plans, SourcePlan, SourceState};
 use std::alloc::Global;
 use std::vec::IntoIter;
@@ -27,7 +27,7 @@ pub struct Draft {
 }
 
 /// The sources at their start.
-pub fn states_of(alloc: Global, plans: Plans) -> Result<States<SourceState>, NoMemory>
+fn states_of(alloc: Global, plans: Plans) -> Result<States<SourceState>, NoMemory>
     requires { All IsPlan plans }
     ensures { IfOk result (λ states. states ≡ map source_of plans) }
 {
@@ -39,7 +39,7 @@ pub fn states_of(alloc: Global, plans: Plans) -> Result<States<SourceState>, NoM
 }
 
 /// Whether each source is closed.
-pub fn closed_of(alloc: Global, states: &[SourceState]) -> Result<Vec<bool>, NoMemory>
+fn closed_of(alloc: Global, states: &[SourceState]) -> Result<Vec<bool>, NoMemory>
     ensures { IfOk result (λ closed. closed.items ≡ map has_closed states.now) }
 {
     let mut closed = Vec::with_capacity(alloc, states.len())?;
@@ -47,6 +47,37 @@ pub fn closed_of(alloc: Global, states: &[SourceState]) -> Result<Vec<bool>, NoM
         closed.push(state.is_closed())?;
     }
     Ok(closed)
+}
+
+fn shape_of(alloc: Global, states: &[SourceState], seats: u32) -> Result<FlagShape, NoMemory>
+    requires { length states.now < 2 ^ 32 }
+    ensures { IfOk result (λ shape. shape ≡ record { sources = length states.now; closed = map has_closed states.now; leaves = []; tasks = []; seats = seats }) }
+{
+    let closed = closed_of(alloc, states)?;
+    Ok(FlagShape {
+        sources: states.len() as u32,
+        closed: Items::from_vec(closed),
+        leaves: Items::new(alloc),
+        tasks: Items::new(alloc),
+        seats,
+    })
+}
+
+/// The machine of some sources, and all its seats.
+pub fn flags_of(
+    alloc: Global,
+    plans: Plans,
+    seats: u32,
+) -> Result<(HubFlags, FlagSeats<SourceState>), NoMemory>
+    requires plans { All IsPlan plans }
+    requires some_source { 0 < length plans }
+    requires few { length plans < 2 ^ 32 }
+    requires some_seat { 0 < seats }
+    ensures { IfOk result (λ made. IsSeated plans seats made.0 made.1) }
+{
+    let states = states_of(alloc, plans)?;
+    let shape = shape_of(alloc, states.as_slice(), seats)?;
+    Flags::new(alloc, shape, states)
 }
 
 /// The drafts of so many writers' passes.
@@ -90,8 +121,28 @@ fn may_write(allow: &[Allowance], number: u32) -> bool
 }
 
 impl Hub {
+    /// The passes of all seats.
+    pub(crate) fn passes(
+        &self,
+        seats: FlagSeats<SourceState>,
+        drafts: Vec<Draft>,
+    ) -> Result<Passes, NoMemory>
+        requires drafts { AreDrafts self.now.machine.plans 0 drafts.items }
+        requires writers { length drafts.items ≡ self.now.writers }
+        requires seats { AreNewSeats self.now.machine 0 seats }
+        requires count { length seats ≡ self.now.writers + self.now.pollers }
+        requires few { self.now.writers + self.now.pollers < 2 ^ 32 }
+        ensures writers { IfOk result (λ passes. AreNew self.now 0 self.now.writers passes.writers) }
+        ensures pollers { IfOk result (λ passes. AreNew self.now self.now.writers self.now.pollers passes.pollers) }
+    {
+        let mut seats = seats.into_vec().into_iter();
+        let writers = self.writer_passes(&mut seats, drafts)?;
+        let pollers = self.poll_passes(seats)?;
+        Ok(Passes { writers, pollers })
+    }
+
     /// The writers' passes, with the first of the seats.
-    pub(crate) fn writer_passes(
+    fn writer_passes(
         &self,
         seats: &mut SeatIter,
         drafts: Vec<Draft>,
@@ -119,7 +170,7 @@ impl Hub {
     }
 
     /// The pollers' passes, with the seats behind those of the writers.
-    pub(crate) fn poll_passes(&self, seats: SeatIter) -> Result<PollPasses, NoMemory>
+    fn poll_passes(&self, seats: SeatIter) -> Result<PollPasses, NoMemory>
         requires seats { AreNewSeats self.now.machine self.now.writers (into_iter_items seats) }
         requires few { self.now.writers + length (into_iter_items seats) < 2 ^ 32 }
         ensures { IfOk result (AreNew self.now self.now.writers (length (into_iter_items seats))) }
