@@ -1,4 +1,5 @@
 pub mod Entered
+pub mod Fair
 pub mod Gathered
 pub mod InTurn
 pub mod Leaving

@@ -24,7 +24,7 @@ use Rattle.sig_hub.specs.declared.starting.Draft.{Draft}
 
 -- ---- the sources that a writer writes
 
-any_writer : (number : ℕ) (allow : List Allowance) → list_any (λ (allowance : Allowance). allowance.writer == number) allow ≡ is_among number (writers_of allow)
+pub any_writer : (number : ℕ) (allow : List Allowance) → list_any (λ (allowance : Allowance). allowance.writer == number) allow ≡ is_among number (writers_of allow)
 any_writer number [] = refl
 any_writer number (allowance ∷ allow) = ap (λ (others : Bool). (allowance.writer == number) || others) (any_writer number allow)
 

@@ -14,6 +14,14 @@ pub record IsLeafOf (sources tasks : ℕ) (leaf : LeafPlan) : Type 0 where
   pub of_source : leaf.source < sources
   pub of_task : leaf.task < tasks
 
+-- numbers that are in range
+pub record HasFairCounts (plan : HubPlan) : Type 0 where
+  pub some_source : 0 < length plan.sources
+  pub some_poller : 0 < plan.pollers
+  pub few_sources : length plan.sources < 2 ^ 32
+  pub few_tasks : length plan.tasks < 2 ^ 32
+  pub few_passes : plan.writers + plan.pollers < 2 ^ 32
+
 pub record IsSound (plan : HubPlan) : Type 0 where
   pub some_source : 0 < length plan.sources
   pub some_poller : 0 < plan.pollers

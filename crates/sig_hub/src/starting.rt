@@ -114,7 +114,8 @@ fn sources_by(
     Ok(sources)
 }
 
-fn may_write(allow: &[Allowance], number: u32) -> bool
+/// Whether a writer is among those of a plan.
+pub fn may_write(allow: &[Allowance], number: u32) -> bool
     ensures { result ≡ list_any (λ allowance. allowance.writer == number) allow.now }
 {
     allow.iter().any(|allowance| allowance.writer == number)
