@@ -113,6 +113,7 @@ module _ {V : Type 0} (plan_of : V → SourcePlan) (history_of : V → List Entr
     pub no_tasks : shape.tasks ≡ []
 
   pub record IsMade (shape : FlagShape) (states : List V) (machine : Machine) (seats : List (Seat (Option V) (List Account))) : Type 0 where
+    pub of_words : machine.id.words ≡ shape.sources
     pub of_plans : machine.plans ≡ map plan_of states
     pub of_seats : machine.seats ≡ shape.seats
     pub all : length seats ≡ shape.seats

@@ -1,0 +1,179 @@
+-- What a pass knows after a turn.
+use Rattle.std.proofs.Common.{◌≡◌, ◌∙◌, ◌≢◌, ℕ, zero, suc, ◌<◌, ◌==◌, List, [], ◌∷◌, ◌++◌, length, get_or, set, Bool, true, false, not, Option, None, Some, Result, Ok, Err, IfOk, IfErr, OnOk, OnErr, inl, inr, refl, sym, ap, subst, eq-eqb, arith}
+use Rattle.std.proofs.lemmas.Bool.{eqb-true, and_parts}
+use Rattle.std.proofs.lemmas.List.{get_or-set_same, get_or-set_other, length-set}
+use Rattle.sig_flag.specs.Accounts.{no_plan, opening_knowledge, known, after_turn, after_give}
+use Rattle.sig_flag.specs.Machines.{account, HasNoTurn, IsMet, IsNext, IsSameSeat}
+use Rattle.sig_flag.specs.Told.{IsHistory, LeavesLast}
+use Rattle.sig_flag.specs.declared.accounts.Account.{Account}
+use Rattle.sig_flag.specs.declared.accounts.Knowledge.{Knowledge}
+use Rattle.sig_hist.proofs.Entries.{own_entries_own, own_entries_other}
+use Rattle.sig_hist.specs.Histories.{own_entries, is_leave, ends_with_leave, has_left}
+use Rattle.sig_hist.specs.Sources.{Source, IsIn, IsSource, IsRefusal, allowed, entered, is_among, writers_of}
+use Rattle.sig_hist.specs.declared.edits.Edit.{Edit}
+use Rattle.sig_hist.specs.declared.edits.Edit.TheVariants.{Leave}
+use Rattle.sig_hist.specs.declared.edits.Entry.{Entry}
+use Rattle.sig_hist.specs.declared.edits.Reply.{Reply}
+use Rattle.sig_hist.specs.declared.edits.Reply.TheVariants.{Fine}
+use Rattle.sig_hist.specs.declared.plans.EditError.{EditError}
+use Rattle.sig_hist.specs.declared.plans.EditError.TheVariants.{Spent, NoMemory}
+use Rattle.sig_hist.specs.declared.plans.SourcePlan.{SourcePlan}
+use Rattle.sig_hub.proofs.InTurn.{reads}
+use Rattle.sig_hub.specs.Passes.{Pass, pass_of, plan_in, seen, own, is_in, leave_by, Writes, IsAtRest, IsSamePass, HasMade, HasMadeNone, IsRefused}
+use Rattle.sig_hub.specs.Turns.{PassSeat, its_plan, its_history, HasTaken, MayEnd, HasGiven, IsAfter}
+
+-- ---- nothing comes after a leave
+
+ends_later : (first : Entry) (entries : List Entry) → LeavesLast (first ∷ entries) → ends_with_leave (first ∷ entries) ≡ false → (is_leave first.edit ≡ true → ⊥) × (ends_with_leave entries ≡ false)
+ends_later first [] last stays = ((λ leaves. absurd (cc)), refl)
+ends_later first (second ∷ entries) last stays = ((λ leaves. let none = last.0 leaves in absurd (cc)), stays)
+
+leaves_more : (entries : List Entry) (entry : Entry) → LeavesLast entries → ends_with_leave entries ≡ false → LeavesLast (entries ++ entry ∷ [])
+leaves_more [] entry last stays = ((λ _. refl), tt)
+leaves_more (first ∷ entries) entry last stays = let later = ends_later first entries last stays in ((λ leaves. absurd (later.0 leaves)), leaves_more entries entry last.1 later.1)
+
+-- a writer's entries after one more, which is its own or not
+own_leaves : (writer : ℕ) (history : List Entry) (entry : Entry) (own : Bool) → (entry.caller == writer) ≡ own → LeavesLast (own_entries writer history) → (own ≡ true → has_left writer history ≡ false) →
+    LeavesLast (own_entries writer (history ++ entry ∷ []))
+own_leaves writer history entry true is last stays = rw (own_entries_own writer history entry is) (leaves_more (own_entries writer history) entry last (stays refl))
+own_leaves writer history entry false is last stays = rw (own_entries_other writer history entry is) last
+
+-- ---- a source that the pass writes
+
+known_source : (knows : List Knowledge) (source number : ℕ) → is_among number (writers_of (get_or knows source (opening_knowledge no_plan)).plan.allow) ≡ true → source < length knows
+known_source [] source number is = absurd (cc)
+known_source (first ∷ knows) zero number is = omega arith
+known_source (first ∷ knows) (suc source) number is = omega (arith, known_source knows source number is)
+
+pub writes_known : (pass : Pass) (source : ℕ) → Writes pass source → source < length pass.account.knows
+writes_known pass source writes = known_source pass.account.knows source pass.account.number (and_parts _ _ writes).0
+
+pub not_true : (b : Bool) → not b ≡ true → b ≡ false
+not_true true is = sym is
+not_true false is = refl
+
+-- ---- a turn
+
+module _ (number : ℕ) (old mid : PassSeat) (source : ℕ) (state : Source) (is_number : number ≡ (account old).number) (writes : Writes (pass_of old) source) (taken : HasTaken old mid source state None) where
+  its : IsMet its_plan its_history number (known (account old) source) state
+  its = subst (λ (n : ℕ). IsMet its_plan its_history n (known (account old) source) state) (sym is_number) taken.is_met
+
+  within : source < length (account old).knows
+  within = writes_known (pass_of old) source writes
+
+  -- the writer is in, by what the state says
+  pub in_turn : IsIn state number
+  in_turn =
+      let both : (is_among (account old).number (writers_of (known (account old) source).plan.allow) ≡ true) × (not (ends_with_leave (known (account old) source).own) ≡ true) = and_parts _ _ writes in
+      record {
+        is_writer = rw (its.of_plan, is_number) both.0;
+        stays = rw its.own at (not_true _ both.1);
+      }
+
+  known_mid : known (account mid) source ≡ record { plan = (known (account old) source).plan; seen = state.history; count = length state.history; own = (known (account old) source).own }
+  known_mid = ap (λ (a : Account). known a source) (reads mid _ _ taken.has).is ∙ get_or-set_same (account old).knows source _ _ within
+
+  number_mid : (account mid).number ≡ number
+  number_mid = ap (λ (a : Account). a.number) (reads mid _ _ taken.has).is ∙ sym is_number
+
+  ends_same : (after : Source) → after ≡ state → MayEnd (account mid) source after
+  ends_same after is = record {
+    of_plan = ap its_plan is ∙ its.of_plan ∙ sym (ap (λ (k : Knowledge). k.plan) known_mid);
+    of_history = inl (ap its_history is ∙ sym (ap (λ (k : Knowledge). k.seen) known_mid));
+  }
+
+  pub ends_more : (after : Source) (entry : Entry) → after ≡ entered state entry → entry.caller ≡ number → IsSource after → MayEnd (account mid) source after
+  ends_more after entry is caller sound =
+      let plan_is : (known (account mid) source).plan ≡ state.plan = ap (λ (k : Knowledge). k.plan) known_mid ∙ sym its.of_plan in
+      let seen_is : (known (account mid) source).seen ≡ state.history = ap (λ (k : Knowledge). k.seen) known_mid in
+      let next : IsNext its_plan its_history number state.plan state.history entry after.history = record {
+        last = ap its_history is;
+        of_caller = caller;
+        is_in = in_turn;
+        sound = subst (λ (p : SourcePlan). IsSource (record { plan = p; history = after.history })) (ap its_plan is) sound;
+      } in
+      record {
+        of_plan = ap its_plan is ∙ sym plan_is;
+        of_history = inr (entry, rw (plan_is, seen_is, number_mid) next);
+      }
+
+  -- by what came of an edit
+  pub ends_any : (edit : Edit) (after : Source) (result : Result Reply EditError) → IfOk result (λ reply. after ≡ entered state (record { caller = number; edit = edit; reply = reply })) → OnOk result (IsSource after) →
+      OnErr result (after ≡ state) → MayEnd (account mid) source after
+  ends_any edit after (Ok reply) is sound same = ends_more after (record { caller = number; edit = edit; reply = reply }) is refl sound
+  ends_any edit after (Err error) is sound same = ends_same after same
+
+  pub refused : (error : EditError) → IsRefusal state number error → IsRefused (pass_of old) source error
+  refused (Spent edits) is = let plan_is : state.plan ≡ (known (account old) source).plan = its.of_plan in (is.0 ∙ ap length (sym its.own), is.1 ∙ (λ i. allowed (is_number i) (plan_is i).allow))
+  refused NoMemory is = tt
+
+  -- ---- after the turn
+
+  module _ (new : PassSeat) (after : Source) (same : IsSameSeat old mid) (given : HasGiven mid new source after) where
+    first_knows : List Knowledge
+    first_knows = set (account old).knows source (record { plan = (known (account old) source).plan; seen = state.history; count = length state.history; own = (known (account old) source).own })
+
+    last_account : Account
+    last_account = after_give (after_turn (record (account old) { met = taken.met }) source state.history) source after.history
+
+    is_last : account new ≡ last_account
+    unfolding last_account
+    is_last = (reads new _ _ given.has).is ∙ ap (λ (a : Account). after_give a source after.history) (reads mid _ _ taken.has).is
+
+    pub is_after : IsAfter number old new source after.history
+    unfolding last_account
+    is_after =
+        let turned : Account = after_turn (record (account old) { met = taken.met }) source state.history in
+        let long : source < length turned.knows = rw (length-set (account old).knows source _) within in
+        let turned_is : known turned source ≡ record { plan = (known (account old) source).plan; seen = state.history; count = length state.history; own = (known (account old) source).own } =
+        get_or-set_same (account old).knows source _ _ within in
+        let back : (account old).number ≡ number = sym is_number in
+        let now = reads new _ _ given.has in
+        record {
+          hub = given.same.same_table ∙ same.same_table;
+          at_rest = record {
+            one_account = now.one;
+            no_turn = record { no_turn = ap (λ (a : Account). a.turn) is_last; no_state = now.slots_are };
+            of_number = is_number ∙ sym (ap (λ (a : Account). a.number) is_last);
+          };
+          same_number = ap (λ (a : Account). a.number) is_last;
+          here = ap (λ (a : Account). known a source) is_last ∙ get_or-set_same turned.knows source _ _ long
+              ∙ (λ i. record { plan = (turned_is i).plan; seen = after.history; count = length after.history; own = own_entries (back i) after.history });
+          others = λ other different. ap (λ (a : Account). known a other) is_last ∙ get_or-set_other turned.knows source other _ _ different ∙ get_or-set_other (account old).knows source other _ _ different;
+        }
+
+    pub same_pass : IsSamePass (pass_of old) (pass_of new) source
+    same_pass = record { hub = is_after.hub; number = is_after.same_number; plan = ap (λ (k : Knowledge). k.plan) is_after.here; others = is_after.others }
+
+    pub made : (entry : Entry) → after ≡ entered state entry → entry.caller ≡ number → IsSource after → HasMade (pass_of old) (pass_of new) source entry
+    made entry is caller sound =
+        let history_is : after.history ≡ state.history ++ entry ∷ [] = ap its_history is in
+        let plan_is : after.plan ≡ (known (account old) source).plan = ap its_plan is ∙ its.of_plan in
+        let seen_is : seen (pass_of new) source ≡ after.history = ap (λ (k : Knowledge). k.seen) is_after.here in
+        record {
+          before = state.history;
+          of_own = ap (λ (k : Knowledge). k.own) is_after.here ∙ ap (own_entries number) history_is ∙ own_entries_own number state.history entry (eq-eqb entry.caller number caller)
+              ∙ ap (λ (front : List Entry). front ++ entry ∷ []) (sym its.own);
+          of_seen = seen_is ∙ history_is;
+          front = its.front;
+          history = subst (IsHistory (plan_in (pass_of old) source)) (sym seen_is) (record {
+            of_source = subst (λ (p : SourcePlan). IsSource (record { plan = p; history = after.history })) plan_is sound;
+            leaves = λ writer. rw history_is (own_leaves writer state.history entry (entry.caller == writer) refl (its.of_history.leaves writer)
+                (λ own. subst (λ (n : ℕ). has_left n state.history ≡ false) (sym caller ∙ eqb-true entry.caller writer own) in_turn.stays));
+          });
+        }
+
+    pub made_none : after ≡ state → HasMadeNone (pass_of old) (pass_of new) source
+    made_none is = record {
+      of_own = ap (λ (k : Knowledge). k.own) is_after.here ∙ ap (λ (s : Source). own_entries number s.history) is ∙ sym its.own;
+      front = rw (ap (λ (k : Knowledge). k.seen) is_after.here, ap its_history is) its.front;
+    }
+
+    pub made_any : (edit : Edit) (result : Result Reply EditError) → IfOk result (λ reply. after ≡ entered state (record { caller = number; edit = edit; reply = reply })) → OnOk result (IsSource after) →
+        IfOk result (λ reply. HasMade (pass_of old) (pass_of new) source (record { caller = number; edit = edit; reply = reply }))
+    made_any edit (Ok reply) is sound = made (record { caller = number; edit = edit; reply = reply }) is refl sound
+    made_any edit (Err error) is sound = tt
+
+    pub none_any : (result : Result Reply EditError) → IfErr result (IsRefusal state number) → OnErr result (after ≡ state) → IfErr result (λ error. HasMadeNone (pass_of old) (pass_of new) source × IsRefused (pass_of old) source error)
+    none_any (Ok reply) why is = tt
+    none_any (Err error) why is = (made_none is, refused error why)

@@ -1,0 +1,19 @@
+use Rattle.std.proofs.Common.{refl}
+use Rattle.sig_hub.proofs.Entered.{in_turn, ends_more, is_after, same_pass, made}
+use Rattle.sig_hub.specs.Passes.{leave_by}
+use Rattle.sig_hub.proofs.editing.leave_in_turn.Goals as goal
+
+pub leave-requires : goal.leave-requires
+leave-requires g c = in_turn _ _ _ _ _ c.requires.number c.requires.writes c.begin-state.ensures.turn
+
+pub end-requires-clause-state : goal.end-requires-clause-state
+end-requires-clause-state g c = ends_more _ _ _ _ _ c.requires.number c.requires.writes c.begin-state.ensures.turn _ (leave_by c.args.number) c.leave.ensures.entered refl c.leave.ensures.source
+
+pub returns-clause-rests : goal.returns-clause-rests
+returns-clause-rests g c = (is_after _ _ _ _ _ c.requires.number c.requires.writes c.begin-state.ensures.turn _ _ c.begin-state.ensures.seat c.end.ensures).at_rest
+
+pub returns-clause-same : goal.returns-clause-same
+returns-clause-same g c = same_pass _ _ _ _ _ c.requires.number c.requires.writes c.begin-state.ensures.turn _ _ c.begin-state.ensures.seat c.end.ensures
+
+pub returns-clause-left : goal.returns-clause-left
+returns-clause-left g c = made _ _ _ _ _ c.requires.number c.requires.writes c.begin-state.ensures.turn _ _ c.begin-state.ensures.seat c.end.ensures (leave_by c.args.number) c.leave.ensures.entered refl c.leave.ensures.source

@@ -1,0 +1,10 @@
+use Rattle.std.proofs.Common.{◌∙◌, refl}
+use Rattle.sig_hub.proofs.Gathered.{none_moved, moved_more}
+use Rattle.sig_hub.proofs.ending.with_left.Goals as goal
+
+pub left-init : goal.left-init
+left-init c = (none_moved _ _ _ (c.into_iter-pass-iterator.ensures.into_iter_gives.0 ∙ c.into_vec-pass-items.ensures), refl)
+
+pub left-preserved : goal.left-preserved
+left-preserved c =
+    (moved_more _ _ _ _ _ _ _ _ _ _ c.left.invariant.0 c.in-Some.ensures.steps.0 c.pass.view_is c.pass.invariant c.push_reserved.ensures.items, c.push_reserved.ensures.capacity ∙ c.left.invariant.1)

@@ -1,0 +1,12 @@
+use Rattle.std.proofs.lemmas.Result.{IfOk-weaker}
+use Rattle.sig_hub.proofs.Seated.{shaped, seated}
+use Rattle.sig_hub.proofs.starting.flags_of.Goals as goal
+
+pub new-requires : goal.new-requires
+new-requires c =
+    shaped c.args.plans c.args.seats c.in_ok-states.states _ c.in_ok-shape.shape c.in_ok-states.ensures c.as_slice.ensures c.in_ok-shape.ensures c.requires.plans c.requires.some_source c.requires.some_seat
+
+pub returns : goal.returns
+returns c =
+    IfOk-weaker c.new.result _ _
+    (λ made is. seated c.args.plans c.args.seats c.in_ok-states.states _ c.in_ok-shape.shape c.in_ok-states.ensures c.as_slice.ensures c.in_ok-shape.ensures made.0 made.1 is) c.new.ensures

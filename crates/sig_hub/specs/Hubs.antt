@@ -1,0 +1,36 @@
+-- A hub, and its passes at the start.
+use Rattle.std.specs.Prelude.{◌≡◌, ℕ, ◌+◌, ◌^◌, ◌<◌, List, length, slice_get, Some}
+use Rattle.sig_flag.specs.Accounts.{opening_account}
+use Rattle.sig_flag.specs.Machines.{Machine}
+use Rattle.sig_hub.specs.Passes.{Pass}
+use Rattle.sig_hub.specs.declared.hub.Passes.{Passes}
+use Rattle.sig_hub.specs.declared.plans.HubPlan.{HubPlan}
+
+-- its machine, and how many passes were made: the writers' numbers come first
+pub record HubState : Type 0 where
+  pub machine : Machine
+  pub writers : ℕ
+  pub pollers : ℕ
+
+pub record IsHub (hub : HubState) : Type 0 where
+  pub words : hub.machine.id.words ≡ length hub.machine.plans
+  pub seats : hub.machine.seats ≡ hub.writers + hub.pollers
+  pub few : hub.writers + hub.pollers < 2 ^ 32
+
+-- ---- the start
+
+-- a pass at the start, which has seen and made nothing
+abbrev pub new_pass : HubState → ℕ → Pass
+new_pass hub number = record { hub = hub.machine.id; account = opening_account hub.machine.plans number }
+
+-- so many passes, numbered from the first number on
+pub record AreNew (hub : HubState) (first count : ℕ) (passes : List Pass) : Type 0 where
+  pub all : length passes ≡ count
+  pub each : (k : ℕ) (pass : Pass) → slice_get passes k ≡ Some pass → pass ≡ new_pass hub (first + k)
+
+pub record IsMade (plan : HubPlan) (hub : HubState) (passes : Passes) : Type 0 where
+  pub of_sources : hub.machine.plans ≡ plan.sources
+  pub of_writers : hub.writers ≡ plan.writers
+  pub of_pollers : hub.pollers ≡ plan.pollers
+  pub writers : AreNew hub 0 plan.writers passes.writers
+  pub pollers : AreNew hub plan.writers plan.pollers passes.pollers

@@ -1,0 +1,7 @@
+pub mod Ends
+pub mod Hubs
+pub mod Passes
+pub mod Plans
+pub mod Seats
+pub mod Starting
+pub mod Turns

@@ -1,0 +1,51 @@
+-- What a hub's passes are made of.
+use Rattle.std.specs.Prelude.{◌≡◌, ℕ, zero, suc, ◌+◌, ◌<◌, List, [], ◌∷◌, length, take, slice_index, Bool, false, All}
+use Rattle.sig_flag.specs.Accounts.{opening_account, plan_at}
+use Rattle.sig_flag.specs.Machines.{Machine, Has}
+use Rattle.sig_hist.specs.Histories.{is_closed}
+use Rattle.sig_hist.specs.Sources.{Source, is_among, writers_of}
+use Rattle.sig_hist.specs.declared.plans.SourcePlan.{SourcePlan}
+use Rattle.sig_hub.specs.Hubs.{HubState, new_pass}
+use Rattle.sig_hub.specs.Passes.{Pass}
+use Rattle.sig_hub.specs.Turns.{PassSeat}
+use Rattle.sig_hub.specs.declared.starting.Draft.{Draft}
+
+-- each of the source's writers has left
+abbrev pub has_closed : Source → Bool
+has_closed state = is_closed (writers_of state.plan.allow) state.history
+
+-- the sources that a writer writes, of those below a place
+pub record AreWritten (plans : List SourcePlan) (number place : ℕ) (sources : List ℕ) : Type 0 where
+  pub within : All (λ source. source < place) sources
+  pub each : (source : ℕ) → source < place → is_among source sources ≡ is_among number (writers_of (plan_at plans source).allow)
+  pub once : (at : ℕ) → at < length sources → is_among (slice_index sources at) (take at sources) ≡ false
+
+-- a writer's number, and the sources that it writes
+pub record IsDraft (plans : List SourcePlan) (number : ℕ) (draft : Draft) : Type 0 where
+  pub of_number : draft.number ≡ number
+  pub of_sources : AreWritten plans number (length plans) draft.sources.items
+
+-- numbered from the first number on
+abbrev pub AreDrafts : List SourcePlan → ℕ → List Draft → Type 0
+AreDrafts plans first [] = Unit {0}
+AreDrafts plans first (draft ∷ drafts) = IsDraft plans first draft × AreDrafts plans (suc first) drafts
+
+pub record IsNewSeat (machine : Machine) (number : ℕ) (seat : PassSeat) : Type 0 where
+  pub at_table : seat.table_id ≡ machine.id
+  pub has : Has seat (opening_account machine.plans number) []
+
+abbrev pub AreNewSeats : Machine → ℕ → List PassSeat → Type 0
+AreNewSeats machine first [] = Unit {0}
+AreNewSeats machine first (seat ∷ seats) = IsNewSeat machine first seat × AreNewSeats machine (suc first) seats
+
+abbrev pub AreNewPasses : HubState → ℕ → List Pass → Type 0
+AreNewPasses hub first [] = Unit {0}
+AreNewPasses hub first (pass ∷ passes) = (pass ≡ new_pass hub first) × AreNewPasses hub (suc first) passes
+
+-- a machine of these sources, and all its seats
+pub record IsSeated (plans : List SourcePlan) (count : ℕ) (machine : Machine) (seats : List PassSeat) : Type 0 where
+  pub of_plans : machine.plans ≡ plans
+  pub of_words : machine.id.words ≡ length plans
+  pub of_seats : machine.seats ≡ count
+  pub counted : length seats ≡ count
+  pub new : AreNewSeats machine 0 seats

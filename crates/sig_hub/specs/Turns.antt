@@ -1,0 +1,58 @@
+-- What the seat of a pass goes through in the turn of a source.
+use Rattle.std.specs.Prelude.{◌≡◌, ◌≢◌, ℕ, List, [], ◌∷◌, length, take, Option, ◌⊎◌}
+use Rattle.atomic_table.specs.declared.shared.Seat.{Seat}
+use Rattle.sig_flag.specs.Accounts.{known, after_turn, after_give}
+use Rattle.sig_flag.specs.Machines.{account, Has, IsMet, IsNext, IsSameSeat}
+use Rattle.sig_flag.specs.declared.accounts.Account.{Account}
+use Rattle.sig_hist.specs.Histories.{own_entries}
+use Rattle.sig_hist.specs.Sources.{Source, is_among}
+use Rattle.sig_hist.specs.declared.edits.Entry.{Entry}
+use Rattle.sig_hist.specs.declared.plans.SourcePlan.{SourcePlan}
+use Rattle.sig_hist.specs.declared.ports.Met.{Met}
+use Rattle.sig_hub.specs.Passes.{pass_of, IsAtRest, LeavesOne}
+
+abbrev pub PassSeat : Type 0
+PassSeat = Seat (Option Source) (List Account)
+
+abbrev pub its_plan : Source → SourcePlan
+its_plan source = source.plan
+
+abbrev pub its_history : Source → List Entry
+its_history source = source.history
+
+-- takes found the word held so far
+pub record IsTrying (old new : PassSeat) : Type 0 where
+  pub same : IsSameSeat old new
+  pub met : List Met
+  pub has : Has new (record (account old) { met = met }) []
+
+-- the seat has the turn of the source, and this in its slot
+pub record HasTaken (old new : PassSeat) (source : ℕ) (state : Source) (slot : Option Source) : Type 0 where
+  pub met : List Met
+  pub is_met : IsMet its_plan its_history (account old).number (known (account old) source) state
+  pub has : Has new (after_turn (record (account old) { met = met }) source state.history) ((source, slot) ∷ [])
+
+-- the turn may be given back with this state
+pub record MayEnd (a : Account) (source : ℕ) (state : Source) : Type 0 where
+  pub of_plan : state.plan ≡ (known a source).plan
+  pub of_history : (state.history ≡ (known a source).seen) ⊎ ((entry : Entry) × IsNext its_plan its_history a.number (known a source).plan (known a source).seen entry state.history)
+
+-- the seat gave the turn back with this state
+pub record HasGiven (old new : PassSeat) (source : ℕ) (state : Source) : Type 0 where
+  pub same : IsSameSeat old new
+  pub has : Has new (after_give (account old) source state.history) []
+
+-- what the seat's pass knows after a turn in which the source's history became this
+pub record IsAfter (number : ℕ) (old new : PassSeat) (source : ℕ) (history : List Entry) : Type 0 where
+  pub hub : new.table_id ≡ old.table_id
+  pub at_rest : IsAtRest new number
+  pub same_number : (account new).number ≡ (account old).number
+  pub here : known (account new) source ≡ record { plan = (known (account old) source).plan; seen = history; count = length history; own = own_entries number history }
+  pub others : (other : ℕ) → other ≢ source → known (account new) other ≡ known (account old) other
+
+-- a seat's pass has left the first of its sources, so many
+pub record IsLeaving (number : ℕ) (old new : PassSeat) (sources : List ℕ) (place : ℕ) : Type 0 where
+  pub at_rest : IsAtRest new number
+  pub hub : new.table_id ≡ old.table_id
+  pub same_number : (account new).number ≡ (account old).number
+  pub each : (source : ℕ) → LeavesOne (is_among source (take place sources)) (pass_of old) (pass_of new) source

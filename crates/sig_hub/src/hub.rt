@@ -1,0 +1,112 @@
+ghost use Rattle.std.specs.Prelude.{◌≡◌, ◌<◌, [], length, false, IfOk, IfErr};
+ghost use Rattle.sig_hist.specs.Histories.{is_leave};
+ghost use Rattle.sig_hub.specs.Hubs.{IsMade};
+ghost use Rattle.sig_hub.specs.Passes.{Writes, IsSamePass, HasMade, HasMadeNone, IsRefused, HasLeft};
+ghost use Rattle.sig_hub.specs.Plans.{IsSound};
+
+use crate::editing::{edit_in_turn, leave_all};
+use crate::passes::{Left, PollPasses, WriterPass, WriterPasses};
+use crate::plans::HubPlan;
+use crate::starting::{drafts_of, flags_of};
+use sig_diff::{NoMemory, TryCopy};
+use sig_flag::Flags;
+use sig_hist::{Edit, EditError, Reply, SourceState};
+use std::alloc::Global;
+use std::marker::Model;
+use std::sync::Wait;
+
+/// Sources that several threads edit, each with a pass of its own.
+#[derive(Drop)]
+pub struct Hub {
+    pub(crate) alloc: Global,
+    pub(crate) flags: Flags<SourceState>,
+    pub(crate) writers: u32,
+    pub(crate) pollers: u32,
+}
+
+impl Model for Hub {
+    ghost use Rattle.sig_hub.specs.Hubs.{HubState, IsHub};
+
+    ghost Value = { HubState };
+
+    ghost view = { λ hub. record { machine = hub.flags; writers = hub.writers; pollers = hub.pollers } };
+
+    ghost invariant = { λ hub. IsHub record { machine = hub.flags; writers = hub.writers; pollers = hub.pollers } };
+}
+
+/// The passes of a hub, in the order of their numbers.
+#[derive(Drop)]
+pub struct Passes {
+    pub writers: WriterPasses,
+    pub pollers: PollPasses,
+}
+
+impl Hub {
+    /// The hub of a plan, which has no leaves and tasks yet, and its passes.
+    pub fn new(alloc: Global, plan: HubPlan) -> Result<(Hub, Passes), NoMemory>
+        requires sound { IsSound plan }
+        requires no_leaves { plan.leaves ≡ [] }
+        requires no_tasks { plan.tasks ≡ [] }
+        ensures { IfOk result (λ made. IsMade plan made.0 made.1) }
+    {
+        let HubPlan {
+            sources,
+            pollers,
+            writers,
+            ..
+        } = plan;
+        let drafts = drafts_of(alloc, sources.as_slice(), writers)?;
+        let (flags, seats) = flags_of(alloc, sources, writers + pollers)?;
+        let hub = Hub {
+            alloc,
+            flags,
+            writers,
+            pollers,
+        };
+        let passes = hub.passes(seats, drafts)?;
+        Ok((hub, passes))
+    }
+
+    /// Makes an edit of a source, once the pass gets its turn. The entry stands in the source's history after all that the
+    /// pass had seen of it, with the reply that is right there. After a refusal nothing was made: the pass has made all the
+    /// edits that it may, or memory was wanting.
+    pub fn edit<R: Wait>(
+        &self,
+        rt: &R,
+        pass: &mut WriterPass,
+        source: usize,
+        edit: &Edit,
+    ) -> Result<Reply, EditError>
+        requires hub { pass.old.hub ≡ self.now.machine.id }
+        requires source { source < length self.now.machine.plans }
+        requires writes { Writes pass.old source }
+        requires no_leave { is_leave edit.now ≡ false }
+        ensures same { IsSamePass pass.old pass.new source }
+        ensures ok { IfOk result (λ reply. HasMade pass.old pass.new source (record { caller = pass.old.account.number; edit = edit.now; reply = reply })) }
+        ensures err { IfErr result (λ error. HasMadeNone pass.old pass.new source × IsRefused pass.old source error) }
+    {
+        let edit = edit.copy()?;
+        edit_in_turn(
+            rt,
+            &self.flags,
+            &mut pass.seat,
+            pass.number,
+            source,
+            &edit,
+        )
+    }
+
+    /// Leaves each of the pass's sources that it hasn't left, in rising order. It takes no memory.
+    pub fn leave<R: Wait>(&self, rt: &R, pass: WriterPass) -> Left
+        requires hub { pass.hub ≡ self.now.machine.id }
+        ensures { HasLeft pass result }
+    {
+        let WriterPass {
+            mut seat,
+            number,
+            sources,
+        } = pass;
+        leave_all(rt, &self.flags, &mut seat, number, sources.as_slice());
+        Left { seat, number }
+    }
+}

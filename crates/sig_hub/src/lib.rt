@@ -1,0 +1,16 @@
+//! Sources that several threads edit: a hub that holds them, and a pass for each writer and each poller. Every source has
+//! one legal history, in which every writer's edits stand once and in order.
+#![tactic(auto)]
+
+mod editing;
+mod ending;
+mod hub;
+mod passes;
+mod plans;
+mod starting;
+mod turns;
+
+pub use ending::{Closed, FinishError, Returned};
+pub use hub::{Hub, Passes};
+pub use passes::{Left, Lefts, PollPass, PollPasses, WriterPass, WriterPasses};
+pub use plans::{HubPlan, PollerOf};
