@@ -57,8 +57,7 @@ tried_again old mid new source word trying same take = record {
 pub has_taken : (old mid new : PassSeat) (source : ℕ) → IsTrying old mid → IsTake its_plan its_history mid new source Turn → (state : Source) × HasTaken old new source state (Some state)
 has_taken old mid new source trying take =
     let state = take.0 in
-    let is = (reads mid _ [] trying.has).is in
-    (
+    let is = (reads mid _ [] trying.has).is in (
       state,
       record {
         met = trying.met;
@@ -99,8 +98,7 @@ pub may_give : (old mid : PassSeat) (source count : ℕ) (closed : Bool) (state 
     (count ≡ length state.history) → (closed ≡ is_closed (writers_of state.plan.allow) state.history) →
     (s : Source) × HasTurn mid source (Some s) × MayGive its_plan its_history (account mid) source count closed s
 may_give old mid source count closed state turn may has counted closes =
-    let now = reads mid _ _ has in
-    (
+    let now = reads mid _ _ has in (
       state,
       record { turn = ap (λ (a : Account). a.turn) now.is ∙ turn.turn; slot = now.slots_are },
       subst (λ (a : Account). MayGive its_plan its_history a source count closed state) (sym now.is) (record {

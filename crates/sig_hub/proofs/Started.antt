@@ -67,10 +67,10 @@ module _ (plans : List SourcePlan) (number place : ℕ) (sources : List ℕ) (ar
     within = All-push (λ s. s < place + 1) sources place (λ k d at. let below = are.within k d at in omega arith) (omega arith);
     each = λ source before. list_any-append (λ (s : ℕ). s == source) sources (place ∷ []) ∙ ⊎_elim
         (λ (low : source < place).
-            let other : (place == source) ≡ false = ne_eqb place source (λ same. absurd (omega arith)) in
-            ap₂ (λ (one here : Bool). one || (here || false)) (are.each source low) other ∙ or_false _)
+        let other : (place == source) ≡ false = ne_eqb place source (λ same. absurd (omega arith)) in
+        ap₂ (λ (one here : Bool). one || (here || false)) (are.each source low) other ∙ or_false _)
         (λ (same : source ≡ place). subst (λ s. (is_among s sources || ((place == s) || false)) ≡ is_among number (writers_of (plan_at plans s).allow)) (sym same)
-            (ap₂ (λ (one here : Bool). one || (here || false)) (above sources place place are.within (omega arith)) (eq-eqb place place refl) ∙ sym has))
+        (ap₂ (λ (one here : Bool). one || (here || false)) (above sources place place are.within (omega arith)) (eq-eqb place place refl) ∙ sym has))
         (below_or_at place source before);
     once = λ at before. ⊎_elim
         (λ (low : at < length sources). rw (get_or_append_left sources (place ∷ []) 0 at low, take-append-le at sources (place ∷ []) (omega arith)) (are.once at low))
