@@ -1,3 +1,4 @@
+pub mod AllOf
 pub mod Entered
 pub mod Fair
 pub mod Gathered

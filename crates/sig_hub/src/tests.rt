@@ -1,7 +1,7 @@
 ghost use Rattle.std.specs.Prelude.{◌≡◌, ◌<◌, ◌≤◌, [], ◌∷◌, length, All, IfSome, IfOk};
 ghost use Rattle.sig_hub.specs.Ends.{IsOf};
 
-use crate::{Closed, FinishError, Hub, HubPlan, Left, Lefts, Passes, Returned, WriterPass};
+use crate::{Closed, FinishError, Hub, HubPlan, Left, Lefts, Passes, PollPasses, Returned, WriterPass};
 use sig_diff::{Content, Items, NoMemory, VecDiff};
 use sig_flag::LeafPlan;
 use sig_hist::{Allowance, Edit, EditError, Kept, Plans, Reply, SourcePlan, SourceState};
@@ -120,7 +120,22 @@ fn finished<R: Threads + Wait + Sync>(
     let second = writers.pop()?;
     let first = writers.pop()?;
     let (first, second) = push_twice(rt, &hub, first, second);
-    let left = both(alloc, first?, second?).ok()?;
+    closed(alloc, hub, first?, second?, pollers)
+}
+
+/// A hub that is finished with these passes.
+fn closed(
+    alloc: Global,
+    hub: Hub,
+    first: Left,
+    second: Left,
+    pollers: PollPasses,
+) -> Option<Closed>
+    requires first { first.hub ≡ hub.machine.id }
+    requires second { second.hub ≡ hub.machine.id }
+    requires pollers { All (IsOf hub) pollers }
+{
+    let left = both(alloc, first, second).ok()?;
     hub.finish(Returned { left, pollers }).ok()
 }
 
@@ -179,29 +194,17 @@ fn two_threads_push_into_one_source(rt: HostRuntime) -> Result<(), Fail> {
 
 // ---- unsound plans
 
-/// The sources of a plan that breaks the rule of a number.
+/// The source of a plan that breaks the rule of a number.
 fn broken_source(alloc: Global, rule: u32) -> Result<SourcePlan, NoMemory> {
-    let mut source = source(alloc, 3, 2, 5)?;
+    let writers = if rule == 7 { 3 } else { 2 };
+    let edits = if rule == 6 { 1 << 31 } else { 5 };
+    let mut source = source(alloc, 3, writers, edits)?;
     match rule {
         4 => source.start = Content::Vector(Items::from_vec(vec![in alloc; 1, 2, 3, 4]?)),
         5 => source.allow.push(Allowance {
             writer: 1,
             edits: 0,
         })?,
-        6 => source.allow.set(
-            1,
-            Allowance {
-                writer: 1,
-                edits: u32::MAX - 6,
-            },
-        ),
-        7 => source.allow.set(
-            1,
-            Allowance {
-                writer: 2,
-                edits: 0,
-            },
-        ),
         _ => {}
     }
     Ok(source)
@@ -266,9 +269,8 @@ fn spent<R: Wait>(rt: &R, alloc: Global, hub: Hub, passes: Passes) -> Option<(Ed
     let second = writers.pop()?;
     let first = writers.pop()?;
     let (error, first) = push_too_often(rt, &hub, first)?;
-    let left = both(alloc, first, hub.leave(rt, second)).ok()?;
-    let closed = hub.finish(Returned { left, pollers }).ok()?;
-    Some((error, closed))
+    let second = hub.leave(rt, second);
+    Some((error, closed(alloc, hub, first, second, pollers)?))
 }
 
 /// A hub that can be finished only once its writers' passes are there too.
@@ -297,10 +299,9 @@ fn late<R: Wait>(rt: &R, alloc: Global, hub: Hub, passes: Passes) -> Option<(u32
     else {
         return None;
     };
-    let left = both(alloc, hub.leave(rt, first), hub.leave(rt, second)).ok()?;
-    let pollers = back.pollers;
-    let closed = hub.finish(Returned { left, pollers }).ok()?;
-    Some((made, given, closed))
+    let first = hub.leave(rt, first);
+    let second = hub.leave(rt, second);
+    Some((made, given, closed(alloc, hub, first, second, back.pollers)?))
 }
 
 fn with_little<R: Wait + Abort>(
