@@ -5,5 +5,6 @@ pub mod Gathered
 pub mod InTurn
 pub mod Leaving
 pub mod Seated
+pub mod Sends
 pub mod Started
 pub mod StillIn
