@@ -21,12 +21,6 @@ pub record AreMoved (all moved rest : List Pass) (before now : List PassSeat) : 
 pub none_moved : (all rest : List Pass) (before : List PassSeat) → rest ≡ all → AreMoved all [] rest before before
 none_moved all rest before is = record { parts = is; counted = omega arith; seats = λ passes are. subst (λ (p : List Pass). AreSeatsOf p before) (sym (append-nil passes)) are }
 
-pub some_room : (all moved rest others : List Pass) (before now : List PassSeat) (pass : Pass) (room : ℕ) → AreMoved all moved rest before now → rest ≡ pass ∷ others → length before + length all ≤ room → length now < room
-some_room all moved rest others before now pass room are is enough =
-    let long = ap length are.parts in
-    let more = ap length is in
-    omega (arith, are.counted, length-append moved rest)
-
 seats_more : (passes : List Pass) (seats : List PassSeat) (seat : PassSeat) (number : ℕ) → AreSeatsOf passes seats → IsAtRest seat number → AreSeatsOf (passes ++ pass_of seat ∷ []) (seats ++ seat ∷ [])
 seats_more passes seats seat number are rests =
     let alone : Rests seat = record { one_account = rests.one_account; no_turn = rests.no_turn; of_number = refl } in

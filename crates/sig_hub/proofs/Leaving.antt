@@ -52,9 +52,6 @@ module _ (number : ℕ) (old : PassSeat) (sources : List ℕ) (those : AreThoseT
         in_same (pass_of old) (pass_of mid) (get_or sources place 0) leaving.same_number unknown ∙ those.each (get_or sources place 0)
         ∙ list_any_at (λ (s : ℕ). s == get_or sources place 0) sources place 0 more (eq-eqb (get_or sources place 0) (get_or sources place 0) refl)
 
-    pub next_within : get_or sources place 0 < old.table_id.words
-    next_within = those.within place 0 more
-
     pub left_one : (new : PassSeat) → IsAtRest new number → IsSamePass (pass_of mid) (pass_of new) (get_or sources place 0) → HasMade (pass_of mid) (pass_of new) (get_or sources place 0) (leave_by number) →
         IsLeaving number old new sources (place + 1)
     left_one new rests same made = record {

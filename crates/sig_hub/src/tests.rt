@@ -1,7 +1,9 @@
 ghost use Rattle.std.specs.Prelude.{◌≡◌, ◌<◌, ◌≤◌, [], ◌∷◌, length, All, IfSome, IfOk};
 ghost use Rattle.sig_hub.specs.Ends.{IsOf};
 
-use crate::{Closed, FinishError, Hub, HubPlan, Left, Lefts, Passes, PollPasses, Returned, WriterPass};
+use crate::{
+    Closed, FinishError, Hub, HubPlan, Left, Lefts, Passes, PollPasses, Returned, WriterPass,
+};
 use sig_diff::{Content, Items, NoMemory, VecDiff};
 use sig_flag::LeafPlan;
 use sig_hist::{Allowance, Edit, EditError, Kept, Plans, Reply, SourcePlan, SourceState};
@@ -124,18 +126,14 @@ fn finished<R: Threads + Wait + Sync>(
 }
 
 /// A hub that is finished with these passes.
-fn closed(
-    alloc: Global,
-    hub: Hub,
-    first: Left,
-    second: Left,
-    pollers: PollPasses,
-) -> Option<Closed>
+fn closed(alloc: Global, hub: Hub, first: Left, second: Left, pollers: PollPasses) -> Option<Closed>
     requires first { first.hub ≡ hub.machine.id }
     requires second { second.hub ≡ hub.machine.id }
     requires pollers { All (IsOf hub) pollers }
 {
-    let left = both(alloc, first, second).ok()?;
+    let Ok(left) = both(alloc, first, second) else {
+        return None;
+    };
     hub.finish(Returned { left, pollers }).ok()
 }
 
@@ -301,7 +299,11 @@ fn late<R: Wait>(rt: &R, alloc: Global, hub: Hub, passes: Passes) -> Option<(u32
     };
     let first = hub.leave(rt, first);
     let second = hub.leave(rt, second);
-    Some((made, given, closed(alloc, hub, first, second, back.pollers)?))
+    Some((
+        made,
+        given,
+        closed(alloc, hub, first, second, back.pollers)?,
+    ))
 }
 
 fn with_little<R: Wait + Abort>(
@@ -326,7 +328,9 @@ fn with_no_writer<R: Wait + Abort>(
 fn a_pass_that_is_spent_can_leave(rt: HostRuntime) -> Result<(), Fail> {
     let (error, closed) = with_little(&rt, rt.alloc())?.expect(&rt, "the second edit is refused");
     assert!(rt; error == EditError::Spent { made: 1 });
-    let source = &closed.sources().as_slice()[0];
+    let sources = closed.sources().as_slice();
+    assert_eq!(rt; sources.len(), 1);
+    let source = &sources[0];
     assert!(rt; own_entries(source, 0) == (2, true));
     assert!(rt; own_entries(source, 1) == (1, true));
     Ok(())
