@@ -1,9 +1,9 @@
 -- How the seats of passes are gathered at the end.
-use Rattle.std.proofs.Common.{◌≡◌, ◌∙◌, ℕ, ◌+◌, ◌<◌, ◌≤◌, List, [], ◌∷◌, ◌++◌, length, map, get_or, All, refl, sym, ap, subst, append_assoc, length-append, arith}
+use Rattle.std.proofs.Common.{◌≡◌, ◌∙◌, ℕ, ◌+◌, ◌≤◌, List, [], ◌∷◌, ◌++◌, length, map, All, refl, sym, ap, subst, append_assoc, length-append, arith}
 use Rattle.std.proofs.lemmas.List.{append-nil, length_push, length-map, map-append, get_or-map}
 use Rattle.std.proofs.lemmas.List.Elements.{All-nil, All-cons, All-head, All-tail, All-same, All-append, All-map, All-push}
 use Rattle.sig_flag.specs.Accounts.{plan_at}
-use Rattle.sig_flag.specs.Machines.{account, AreBack, IsEnd}
+use Rattle.sig_flag.specs.Machines.{AreBack, IsEnd}
 use Rattle.sig_hist.specs.Sources.{Source}
 use Rattle.sig_hub.specs.Ends.{AreOf, IsOf, Knew, IsFinished}
 use Rattle.sig_hub.specs.Hubs.{HubState, IsHub}

@@ -1,14 +1,10 @@
 -- How a seat gets a turn and gives it back.
-use Rattle.std.proofs.Common.{◌≡◌, ◌∙◌, ℕ, List, [], ◌∷◌, length, Bool, Option, None, Some, refl, sym, ap, subst}
-use Rattle.atomic_table.specs.declared.shared.Seat.{Seat}
-use Rattle.sig_flag.specs.Accounts.{account_of, known, after_turn, after_held, after_give}
-use Rattle.sig_flag.specs.Machines.{Machine, account, Has, HasNoTurn, HasTurn, IsMet, IsSameSeat, IsTake, MayGive, Sits}
+use Rattle.std.proofs.Common.{◌≡◌, ◌∙◌, ℕ, List, [], ◌∷◌, Option, refl, sym, ap}
+use Rattle.sig_flag.specs.Accounts.{account_of}
+use Rattle.sig_flag.specs.Machines.{Machine, account, Has, HasNoTurn, IsSameSeat, Sits}
 use Rattle.sig_flag.specs.declared.accounts.Account.{Account}
-use Rattle.sig_flag.specs.declared.flags.Taken.TheVariants.{Turn, Held}
-use Rattle.sig_hist.specs.Histories.{is_closed}
-use Rattle.sig_hist.specs.Sources.{Source, writers_of}
-use Rattle.sig_hist.specs.declared.ports.Met.{Met}
-use Rattle.sig_hub.specs.Turns.{PassSeat, its_plan, its_history, IsTrying, HasTaken, MayEnd, HasGiven}
+use Rattle.sig_hist.specs.Sources.{Source}
+use Rattle.sig_hub.specs.Turns.{PassSeat, IsTrying}
 
 -- ---- what a seat has
 

@@ -1,5 +1,5 @@
 -- How a pass leaves its sources one after another.
-use Rattle.std.proofs.Common.{◌≡◌, ◌∙◌, ℕ, ◌+◌, ◌<◌, ◌≤◌, ◌==◌, List, [], ◌∷◌, ◌++◌, length, take, get_or, slice_get, Bool, true, false, ◌||◌, Some, All, refl, sym, ap, subst, eq-eqb, arith}
+use Rattle.std.proofs.Common.{◌≡◌, ◌∙◌, ℕ, ◌+◌, ◌<◌, ◌≤◌, ◌==◌, List, [], ◌∷◌, ◌++◌, length, take, get_or, Bool, true, false, ◌||◌, refl, sym, ap, subst, eq-eqb}
 use Rattle.std.proofs.lemmas.Bool.{eqb-true, eqb-false, or_right}
 use Rattle.std.proofs.lemmas.List.Folds.{list_any_more, list_any_at}
 use Rattle.std.proofs.lemmas.List.{take_all}
@@ -11,7 +11,7 @@ use Rattle.sig_hist.specs.Histories.{IsFront}
 use Rattle.sig_hist.specs.Sources.{is_among}
 use Rattle.sig_hist.specs.declared.edits.Entry.{Entry}
 use Rattle.sig_hub.proofs.StillIn.{in_same}
-use Rattle.sig_hub.specs.Passes.{Pass, pass_of, own, seen, plan_in, leave_by, is_in, Writes, IsAtRest, AreThoseToLeave, IsSamePass, HasMade, LeavesOne, HasLeft}
+use Rattle.sig_hub.specs.Passes.{Pass, pass_of, seen, plan_in, leave_by, Writes, IsAtRest, AreThoseToLeave, IsSamePass, HasMade, LeavesOne, HasLeft}
 use Rattle.sig_hub.specs.Turns.{PassSeat, IsLeaving}
 
 -- what was left stays so where no more is known of it

@@ -1,4 +1,4 @@
-use Rattle.std.proofs.Common.{◌≡◌, ◌∙◌, ◌+◌, List, ℕ, Vec, sym, ap, subst}
+use Rattle.std.proofs.Common.{◌≡◌, ◌∙◌, sym, subst}
 use Rattle.sig_hist.specs.Sources.{is_among, writers_of}
 use Rattle.sig_flag.specs.Accounts.{plan_at}
 use Rattle.sig_hub.proofs.Started.{asked, none_written, written_more, written_less}
