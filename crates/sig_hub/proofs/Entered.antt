@@ -1,9 +1,9 @@
 -- What a pass knows after a turn.
-use Rattle.std.proofs.Common.{◌≡◌, ◌∙◌, ◌≢◌, ℕ, zero, suc, ◌<◌, ◌==◌, List, [], ◌∷◌, ◌++◌, length, get_or, set, Bool, true, false, not, Option, None, Some, Result, Ok, Err, IfOk, IfErr, OnOk, OnErr, inl, inr, refl, sym, ap, subst, eq-eqb, arith}
+use Rattle.std.proofs.Common.{◌≡◌, ◌∙◌, ℕ, zero, suc, ◌<◌, ◌==◌, List, [], ◌∷◌, ◌++◌, length, get_or, set, Bool, true, false, not, None, Result, Ok, Err, IfOk, IfErr, OnOk, OnErr, inl, inr, refl, sym, ap, subst, eq-eqb, arith}
 use Rattle.std.proofs.lemmas.Bool.{eqb-true, and_parts}
 use Rattle.std.proofs.lemmas.List.{get_or-set_same, get_or-set_other, length-set}
 use Rattle.sig_flag.specs.Accounts.{no_plan, opening_knowledge, known, after_turn, after_give}
-use Rattle.sig_flag.specs.Machines.{account, HasNoTurn, IsMet, IsNext, IsSameSeat}
+use Rattle.sig_flag.specs.Machines.{account, IsMet, IsNext, IsSameSeat}
 use Rattle.sig_flag.specs.Told.{IsHistory, LeavesLast}
 use Rattle.sig_flag.specs.declared.accounts.Account.{Account}
 use Rattle.sig_flag.specs.declared.accounts.Knowledge.{Knowledge}
@@ -11,15 +11,13 @@ use Rattle.sig_hist.proofs.Entries.{own_entries_own, own_entries_other}
 use Rattle.sig_hist.specs.Histories.{own_entries, is_leave, ends_with_leave, has_left}
 use Rattle.sig_hist.specs.Sources.{Source, IsIn, IsSource, IsRefusal, allowed, entered, is_among, writers_of}
 use Rattle.sig_hist.specs.declared.edits.Edit.{Edit}
-use Rattle.sig_hist.specs.declared.edits.Edit.TheVariants.{Leave}
 use Rattle.sig_hist.specs.declared.edits.Entry.{Entry}
 use Rattle.sig_hist.specs.declared.edits.Reply.{Reply}
-use Rattle.sig_hist.specs.declared.edits.Reply.TheVariants.{Fine}
 use Rattle.sig_hist.specs.declared.plans.EditError.{EditError}
 use Rattle.sig_hist.specs.declared.plans.EditError.TheVariants.{Spent, NoMemory}
 use Rattle.sig_hist.specs.declared.plans.SourcePlan.{SourcePlan}
 use Rattle.sig_hub.proofs.InTurn.{reads}
-use Rattle.sig_hub.specs.Passes.{Pass, pass_of, plan_in, seen, own, is_in, leave_by, Writes, IsAtRest, IsSamePass, HasMade, HasMadeNone, IsRefused}
+use Rattle.sig_hub.specs.Passes.{Pass, pass_of, plan_in, seen, Writes, IsSamePass, HasMade, HasMadeNone, IsRefused}
 use Rattle.sig_hub.specs.Turns.{PassSeat, its_plan, its_history, HasTaken, MayEnd, HasGiven, IsAfter}
 
 -- ---- nothing comes after a leave

@@ -1,5 +1,5 @@
 -- How the plans of sources are looked through.
-use Rattle.std.proofs.Common.{◌≡◌, ◌∙◌, ℕ, zero, suc, ◌+◌, ◌-◌, ◌^◌, ◌<◌, ◌≤◌, ◌==◌, List, [], ◌∷◌, length, take, drop, get_or, Bool, true, false, IsTrue, ◌↔◌, All, refl, sym, ap, subst, drop-cons, add-one, length-drop, arith}
+use Rattle.std.proofs.Common.{◌≡◌, ◌∙◌, ℕ, ◌+◌, ◌-◌, ◌^◌, ◌<◌, ◌==◌, List, ◌∷◌, length, take, drop, get_or, Bool, true, false, IsTrue, ◌↔◌, All, sym, ap, subst, drop-cons, add-one, length-drop, arith}
 use Rattle.std.proofs.lemmas.List.{take_all, length-map, get_or-map}
 use Rattle.std.proofs.lemmas.List.Elements.{All-map}
 use Rattle.std.specs.List.{list_any}

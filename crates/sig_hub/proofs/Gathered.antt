@@ -1,9 +1,9 @@
 -- How the seats of passes are gathered at the end.
-use Rattle.std.proofs.Common.{◌≡◌, ◌∙◌, ℕ, ◌+◌, ◌<◌, ◌≤◌, List, [], ◌∷◌, ◌++◌, length, map, get_or, All, refl, sym, ap, subst, append_assoc, length-append, arith}
+use Rattle.std.proofs.Common.{◌≡◌, ◌∙◌, ℕ, ◌+◌, ◌≤◌, List, [], ◌∷◌, ◌++◌, length, map, All, refl, sym, ap, subst, append_assoc, length-append, arith}
 use Rattle.std.proofs.lemmas.List.{append-nil, length_push, length-map, map-append, get_or-map}
 use Rattle.std.proofs.lemmas.List.Elements.{All-nil, All-cons, All-head, All-tail, All-same, All-append, All-map, All-push}
 use Rattle.sig_flag.specs.Accounts.{plan_at}
-use Rattle.sig_flag.specs.Machines.{account, AreBack, IsEnd}
+use Rattle.sig_flag.specs.Machines.{AreBack, IsEnd}
 use Rattle.sig_hist.specs.Sources.{Source}
 use Rattle.sig_hub.specs.Ends.{AreOf, IsOf, Knew, IsFinished}
 use Rattle.sig_hub.specs.Hubs.{HubState, IsHub}
@@ -20,12 +20,6 @@ pub record AreMoved (all moved rest : List Pass) (before now : List PassSeat) : 
 
 pub none_moved : (all rest : List Pass) (before : List PassSeat) → rest ≡ all → AreMoved all [] rest before before
 none_moved all rest before is = record { parts = is; counted = omega arith; seats = λ passes are. subst (λ (p : List Pass). AreSeatsOf p before) (sym (append-nil passes)) are }
-
-pub some_room : (all moved rest others : List Pass) (before now : List PassSeat) (pass : Pass) (room : ℕ) → AreMoved all moved rest before now → rest ≡ pass ∷ others → length before + length all ≤ room → length now < room
-some_room all moved rest others before now pass room are is enough =
-    let long = ap length are.parts in
-    let more = ap length is in
-    omega (arith, are.counted, length-append moved rest)
 
 seats_more : (passes : List Pass) (seats : List PassSeat) (seat : PassSeat) (number : ℕ) → AreSeatsOf passes seats → IsAtRest seat number → AreSeatsOf (passes ++ pass_of seat ∷ []) (seats ++ seat ∷ [])
 seats_more passes seats seat number are rests =

@@ -1,5 +1,5 @@
 -- How a pass leaves its sources one after another.
-use Rattle.std.proofs.Common.{◌≡◌, ◌∙◌, ℕ, ◌+◌, ◌<◌, ◌≤◌, ◌==◌, List, [], ◌∷◌, ◌++◌, length, take, get_or, slice_get, Bool, true, false, ◌||◌, Some, All, refl, sym, ap, subst, eq-eqb, arith}
+use Rattle.std.proofs.Common.{◌≡◌, ◌∙◌, ℕ, ◌+◌, ◌<◌, ◌≤◌, ◌==◌, List, [], ◌∷◌, ◌++◌, length, take, get_or, Bool, true, false, ◌||◌, refl, sym, ap, subst, eq-eqb}
 use Rattle.std.proofs.lemmas.Bool.{eqb-true, eqb-false, or_right}
 use Rattle.std.proofs.lemmas.List.Folds.{list_any_more, list_any_at}
 use Rattle.std.proofs.lemmas.List.{take_all}
@@ -11,7 +11,7 @@ use Rattle.sig_hist.specs.Histories.{IsFront}
 use Rattle.sig_hist.specs.Sources.{is_among}
 use Rattle.sig_hist.specs.declared.edits.Entry.{Entry}
 use Rattle.sig_hub.proofs.StillIn.{in_same}
-use Rattle.sig_hub.specs.Passes.{Pass, pass_of, own, seen, plan_in, leave_by, is_in, Writes, IsAtRest, AreThoseToLeave, IsSamePass, HasMade, LeavesOne, HasLeft}
+use Rattle.sig_hub.specs.Passes.{Pass, pass_of, seen, plan_in, leave_by, Writes, IsAtRest, AreThoseToLeave, IsSamePass, HasMade, LeavesOne, HasLeft}
 use Rattle.sig_hub.specs.Turns.{PassSeat, IsLeaving}
 
 -- what was left stays so where no more is known of it
@@ -51,9 +51,6 @@ module _ (number : ℕ) (old : PassSeat) (sources : List ℕ) (those : AreThoseT
     writes_next =
         in_same (pass_of old) (pass_of mid) (get_or sources place 0) leaving.same_number unknown ∙ those.each (get_or sources place 0)
         ∙ list_any_at (λ (s : ℕ). s == get_or sources place 0) sources place 0 more (eq-eqb (get_or sources place 0) (get_or sources place 0) refl)
-
-    pub next_within : get_or sources place 0 < old.table_id.words
-    next_within = those.within place 0 more
 
     pub left_one : (new : PassSeat) → IsAtRest new number → IsSamePass (pass_of mid) (pass_of new) (get_or sources place 0) → HasMade (pass_of mid) (pass_of new) (get_or sources place 0) (leave_by number) →
         IsLeaving number old new sources (place + 1)

@@ -1,8 +1,10 @@
+pub mod AllOf
 pub mod Entered
 pub mod Fair
 pub mod Gathered
 pub mod InTurn
 pub mod Leaving
 pub mod Seated
+pub mod Sends
 pub mod Started
 pub mod StillIn

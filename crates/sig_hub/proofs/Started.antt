@@ -1,14 +1,14 @@
 -- How the passes of a hub are made.
-use Rattle.std.proofs.Common.{◌≡◌, ◌∙◌, ℕ, zero, suc, ◌+◌, ◌<◌, ◌≤◌, ◌==◌, List, [], ◌∷◌, ◌++◌, length, map, take, ◌⊎◌, get_or, slice_get, Bool, true, false, not, ◌&&◌, ◌||◌, Option, Some, None, All, inl, inr, ⊎_elim, refl, sym, ap, ap₂, subst, eq-eqb, ne_eqb, zero-add, arith}
+use Rattle.std.proofs.Common.{◌≡◌, ◌∙◌, ℕ, zero, suc, ◌+◌, ◌<◌, ◌≤◌, ◌==◌, List, [], ◌∷◌, ◌++◌, length, map, ◌⊎◌, get_or, slice_get, Bool, true, false, not, ◌&&◌, ◌||◌, Some, All, inl, inr, ⊎_elim, refl, sym, ap, ap₂, subst, eq-eqb, ne_eqb, zero-add, arith}
 use Rattle.std.proofs.lemmas.Bool.{cases_order}
-use Rattle.std.proofs.lemmas.List.{append-nil, length_push, take-append-le, take_at, get_or_append_left}
-use Rattle.std.proofs.lemmas.List.Elements.{All-nil, All-push, All-weaker}
+use Rattle.std.proofs.lemmas.List.{length_push, take-append-le, take_at, get_or_append_left}
+use Rattle.std.proofs.lemmas.List.Elements.{All-nil, All-push}
 use Rattle.std.proofs.lemmas.List.Folds.{list_any-append, list_any_none}
 use Rattle.std.proofs.lemmas.Option.{get_or_from_slice_get, slice_get_read}
 use Rattle.std.proofs.Math.Seq.{get_or-append_seam}
 use Rattle.std.specs.List.{list_any}
-use Rattle.sig_flag.specs.Accounts.{no_plan, opening_knowledge, opening_account, plan_at, known}
-use Rattle.sig_flag.specs.Machines.{Machine, account, Has}
+use Rattle.sig_flag.specs.Accounts.{no_plan, opening_knowledge, plan_at}
+use Rattle.sig_flag.specs.Machines.{Machine}
 use Rattle.sig_flag.specs.declared.accounts.Account.{Account}
 use Rattle.sig_flag.specs.declared.accounts.Knowledge.{Knowledge}
 use Rattle.sig_hist.specs.Histories.{ends_with_leave}
@@ -17,7 +17,7 @@ use Rattle.sig_hist.specs.declared.plans.Allowance.{Allowance}
 use Rattle.sig_hist.specs.declared.plans.SourcePlan.{SourcePlan}
 use Rattle.sig_hub.proofs.InTurn.{reads}
 use Rattle.sig_hub.specs.Hubs.{HubState, IsHub, AreNew, new_pass}
-use Rattle.sig_hub.specs.Passes.{Pass, pass_of, is_in, IsAtRest, AreThoseToLeave}
+use Rattle.sig_hub.specs.Passes.{Pass, pass_of, IsAtRest, AreThoseToLeave}
 use Rattle.sig_hub.specs.Starting.{AreWritten, IsDraft, AreDrafts, IsNewSeat, AreNewSeats, AreNewPasses}
 use Rattle.sig_hub.specs.Turns.{PassSeat}
 use Rattle.sig_hub.specs.declared.starting.Draft.{Draft}
@@ -67,10 +67,10 @@ module _ (plans : List SourcePlan) (number place : ℕ) (sources : List ℕ) (ar
     within = All-push (λ s. s < place + 1) sources place (λ k d at. let below = are.within k d at in omega arith) (omega arith);
     each = λ source before. list_any-append (λ (s : ℕ). s == source) sources (place ∷ []) ∙ ⊎_elim
         (λ (low : source < place).
-            let other : (place == source) ≡ false = ne_eqb place source (λ same. absurd (omega arith)) in
-            ap₂ (λ (one here : Bool). one || (here || false)) (are.each source low) other ∙ or_false _)
+        let other : (place == source) ≡ false = ne_eqb place source (λ same. absurd (omega arith)) in
+        ap₂ (λ (one here : Bool). one || (here || false)) (are.each source low) other ∙ or_false _)
         (λ (same : source ≡ place). subst (λ s. (is_among s sources || ((place == s) || false)) ≡ is_among number (writers_of (plan_at plans s).allow)) (sym same)
-            (ap₂ (λ (one here : Bool). one || (here || false)) (above sources place place are.within (omega arith)) (eq-eqb place place refl) ∙ sym has))
+        (ap₂ (λ (one here : Bool). one || (here || false)) (above sources place place are.within (omega arith)) (eq-eqb place place refl) ∙ sym has))
         (below_or_at place source before);
     once = λ at before. ⊎_elim
         (λ (low : at < length sources). rw (get_or_append_left sources (place ∷ []) 0 at low, take-append-le at sources (place ∷ []) (omega arith)) (are.once at low))

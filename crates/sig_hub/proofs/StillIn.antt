@@ -1,8 +1,7 @@
 -- Which sources a pass is in after an entry of its own.
-use Rattle.std.proofs.Common.{◌≡◌, ◌∙◌, ℕ, ◌==◌, List, [], ◌∷◌, ◌++◌, Bool, true, false, not, ◌&&◌, Result, Ok, Err, IfOk, IfErr, refl, sym, ap, subst}
+use Rattle.std.proofs.Common.{◌≡◌, ◌∙◌, ℕ, ◌==◌, List, Bool, true, false, not, ◌&&◌, Result, Ok, Err, IfOk, IfErr, refl, sym, ap, subst}
 use Rattle.std.proofs.lemmas.Bool.{eqb-true, eqb-false, and_parts}
 use Rattle.sig_flag.specs.Accounts.{known}
-use Rattle.sig_flag.specs.declared.accounts.Knowledge.{Knowledge}
 use Rattle.sig_hist.proofs.Entries.{ends_with_leave_append}
 use Rattle.sig_hist.specs.Histories.{is_leave, ends_with_leave}
 use Rattle.sig_hist.specs.Sources.{is_among, writers_of}

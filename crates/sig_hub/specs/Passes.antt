@@ -6,7 +6,6 @@ use Rattle.sig_flag.specs.Accounts.{known}
 use Rattle.sig_flag.specs.Machines.{account, HasNoTurn}
 use Rattle.sig_flag.specs.Told.{IsHistory}
 use Rattle.sig_flag.specs.declared.accounts.Account.{Account}
-use Rattle.sig_flag.specs.declared.accounts.Knowledge.{Knowledge}
 use Rattle.sig_hist.specs.Histories.{IsFront, ends_with_leave}
 use Rattle.sig_hist.specs.Sources.{Source, allowed, is_among, writers_of}
 use Rattle.sig_hist.specs.declared.edits.Edit.TheVariants.{Leave}

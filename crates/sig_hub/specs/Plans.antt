@@ -1,5 +1,5 @@
 -- When a hub can be made by a plan.
-use Rattle.std.specs.Prelude.{ℕ, ◌+◌, ◌^◌, ◌<◌, List, length, All}
+use Rattle.std.specs.Prelude.{ℕ, ◌+◌, ◌^◌, ◌<◌, length, All}
 use Rattle.sig_flag.specs.declared.shape.LeafPlan.{LeafPlan}
 use Rattle.sig_hist.specs.Sources.{IsPlan, writers_of}
 use Rattle.sig_hist.specs.declared.plans.SourcePlan.{SourcePlan}

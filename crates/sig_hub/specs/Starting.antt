@@ -1,5 +1,5 @@
 -- What a hub's passes are made of.
-use Rattle.std.specs.Prelude.{◌≡◌, ℕ, zero, suc, ◌+◌, ◌<◌, List, [], ◌∷◌, length, take, slice_index, Bool, false, All}
+use Rattle.std.specs.Prelude.{◌≡◌, ℕ, suc, ◌<◌, List, [], ◌∷◌, length, take, slice_index, Bool, false, All}
 use Rattle.sig_flag.specs.Accounts.{opening_account, plan_at}
 use Rattle.sig_flag.specs.Machines.{Machine, Has}
 use Rattle.sig_hist.specs.Histories.{is_closed}

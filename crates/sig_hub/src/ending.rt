@@ -30,7 +30,10 @@ pub enum FinishError {
         back: Returned,
     },
     /// Memory was wanting.
-    NoMemory { hub: Hub, back: Returned },
+    NoMemory {
+        hub: Hub,
+        back: Returned,
+    },
 }
 
 /// The sources of a hub that is finished. Nothing else makes one.

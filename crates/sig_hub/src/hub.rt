@@ -86,14 +86,7 @@ impl Hub {
         ensures err { IfErr result (λ error. HasMadeNone pass.old pass.new source × IsRefused pass.old source error) }
     {
         let edit = edit.copy()?;
-        edit_in_turn(
-            rt,
-            &self.flags,
-            &mut pass.seat,
-            pass.number,
-            source,
-            &edit,
-        )
+        edit_in_turn(rt, &self.flags, &mut pass.seat, pass.number, source, &edit)
     }
 
     /// Leaves each of the pass's sources that it hasn't left, in rising order. It takes no memory.

@@ -1,3 +1,6 @@
+ghost use Rattle.std.specs.Prelude.{◌≡◌};
+ghost use Rattle.sig_hub.specs.Passes.{is_in};
+
 use sig_diff::Items;
 use sig_flag::FlagSeat;
 use sig_hist::SourceState;
@@ -20,6 +23,15 @@ impl Model for WriterPass {
     ghost view = { λ pass. pass_of pass.seat };
 
     ghost invariant = { λ pass. IsAtRest pass.seat pass.number × AreThoseToLeave (pass_of pass.seat) pass.sources.items };
+}
+
+impl WriterPass {
+    /// Whether it may edit a source: it is one of the source's writers, and hasn't left.
+    pub fn is_in(&self, source: usize) -> bool
+        ensures { result ≡ is_in self.now source }
+    {
+        self.sources.as_slice().contains(&source)
+    }
 }
 
 pub type WriterPasses = Items<WriterPass>;

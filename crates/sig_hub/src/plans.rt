@@ -32,11 +32,7 @@ impl HubPlan {
     {
         self.has_fair_counts()
             && are_sources(self.sources.as_slice(), self.writers)
-            && are_leaves(
-                self.leaves.as_slice(),
-                self.sources.len(),
-                self.tasks.len(),
-            )
+            && are_leaves(self.leaves.as_slice(), self.sources.len(), self.tasks.len())
             && are_tasks(self.tasks.as_slice(), self.pollers)
     }
 
@@ -118,9 +114,7 @@ fn are_by(allow: &[Allowance], writers: u32) -> bool
 fn are_leaves(leaves: &[LeafPlan], sources: usize, tasks: usize) -> bool
     ensures { IsTrue result ↔ All (IsLeafOf sources tasks) leaves.now }
 {
-    leaves
-        .iter()
-        .all(|leaf| (leaf.source as usize) < sources && (leaf.task as usize) < tasks)
+    leaves.iter().all(|leaf| (leaf.source as usize) < sources && (leaf.task as usize) < tasks)
 }
 
 fn are_tasks(tasks: &[u32], pollers: u32) -> bool

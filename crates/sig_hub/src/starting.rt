@@ -81,11 +81,7 @@ pub fn flags_of(
 }
 
 /// The drafts of so many writers' passes.
-pub fn drafts_of(
-    alloc: Global,
-    plans: &[SourcePlan],
-    writers: u32,
-) -> Result<Vec<Draft>, NoMemory>
+pub fn drafts_of(alloc: Global, plans: &[SourcePlan], writers: u32) -> Result<Vec<Draft>, NoMemory>
     ensures drafts { IfOk result (λ drafts. AreDrafts plans.now 0 drafts.items) }
     ensures count { IfOk result (λ drafts. length drafts.items ≡ writers) }
 {
@@ -98,11 +94,7 @@ pub fn drafts_of(
 }
 
 /// The sources that a writer writes, in rising order.
-fn sources_by(
-    alloc: Global,
-    plans: &[SourcePlan],
-    number: u32,
-) -> Result<Vec<usize>, NoMemory>
+fn sources_by(alloc: Global, plans: &[SourcePlan], number: u32) -> Result<Vec<usize>, NoMemory>
     ensures { IfOk result (λ sources. AreWritten plans.now number (length plans.now) sources.items) }
 {
     let mut sources = Vec::new(alloc);

@@ -32,12 +32,7 @@ fn wait_for_turn<R: Wait>(rt: &R, flags: &HubFlags, seat: &mut HubSeat, source: 
 }
 
 /// Gets the turn of a source, and with it its state.
-pub fn begin<R: Wait>(
-    rt: &R,
-    flags: &HubFlags,
-    seat: &mut HubSeat,
-    source: usize,
-) -> SourceState
+pub fn begin<R: Wait>(rt: &R, flags: &HubFlags, seat: &mut HubSeat, source: usize) -> SourceState
     requires seat { Sits flags.now seat.old }
     requires source { source < length flags.now.plans }
     requires no_turn { HasNoTurn seat.old }

@@ -1,4 +1,4 @@
-use Rattle.std.proofs.Common.{[], arith, length}
+use Rattle.std.proofs.Common.{[], arith}
 use Rattle.sig_hub.proofs.Gathered.{as_many, no_seats, are_back, finished}
 use Rattle.sig_hub.proofs.ending.close.Goals as goal
 

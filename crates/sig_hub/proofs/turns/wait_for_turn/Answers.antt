@@ -1,4 +1,4 @@
-use Rattle.sig_hub.proofs.InTurn.{not_tried, sits_still, rests_still, tried_again, has_taken}
+use Rattle.sig_hub.proofs.InTurn.{not_tried, sits_still, rests_still}
 use Rattle.sig_hub.proofs.turns.wait_for_turn.Goals as goal
 
 pub tries-init : goal.tries-init

@@ -1,6 +1,4 @@
-use Rattle.std.proofs.Common.{subst}
 use Rattle.sig_hub.proofs.StillIn.{listed_any}
-use Rattle.sig_hub.specs.Passes.{Pass, Writes}
 use Rattle.sig_hub.proofs.hub.Hub.edit.Goals as goal
 
 pub invariant_of-pass : goal.invariant_of-pass

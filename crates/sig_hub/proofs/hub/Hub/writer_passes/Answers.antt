@@ -30,5 +30,5 @@ pub returns-clause-passes : goal.returns-clause-passes
 returns-clause-passes c =
     let so_far = c.drafts.invariant in
     let all : length c.drafts.passes.items ≡ length c.args.drafts.items =
-        omega (arith, so_far.counted, ap length so_far.parts, length-append c.drafts.yielded (into_iter_items c.drafts.draft-iterator), c.drafts.draft-iterator.rest.ok.0, c.in-None.ensures.steps.0) in
+    omega (arith, so_far.counted, ap length so_far.parts, length-append c.drafts.yielded (into_iter_items c.drafts.draft-iterator), c.drafts.draft-iterator.rest.ok.0, c.in-None.ensures.steps.0) in
     rw c.from_vec.ensures (are_new c.args.self.now _ _ _ so_far.starting.passes_are all)
