@@ -3,6 +3,9 @@
 
 use sig_io::{Bytes, Page};
 use sig_run::{Open, Words, signals};
+use std::alloc::{AllocError, Global};
+use std::sync::Wait;
+use std::thread::Threads;
 use std::{fs, io};
 
 /// Of each NAME the script is NAME.json, and what must be printed is NAME.txt.
@@ -22,7 +25,9 @@ const ROOM: usize = 1 << 16;
 
 fn main(rt: HostRuntime) -> io::Result<()> {
     for name in EXAMPLES {
-        let verdict = if is_as_written(&rt, name)? {
+        let script = read(&rt, name, "json")?;
+        let report = read(&rt, name, "txt")?;
+        let verdict = if prints(&rt, rt.alloc(), script, report.as_str())? {
             "as written"
         } else {
             "differs"
@@ -32,11 +37,19 @@ fn main(rt: HostRuntime) -> io::Result<()> {
     Ok(())
 }
 
-/// Whether the program prints what lies beside the script.
-fn is_as_written(rt: &HostRuntime, name: &str) -> io::Result<bool> {
-    let alloc = rt.alloc();
-    let script = fs::read_to_string(rt, format!(in alloc; "{name}.json")?.as_str())?;
-    let report = fs::read_to_string(rt, format!(in alloc; "{name}.txt")?.as_str())?;
+/// The text of one of an example's files.
+fn read(rt: &HostRuntime, name: &str, kind: &str) -> io::Result<String> {
+    let path = format!(in rt.alloc(); "{name}.{kind}")?;
+    fs::read_to_string(rt, path.as_str())
+}
+
+/// Whether the program prints this report for a script.
+fn prints<R: Threads + Wait + Sync>(
+    rt: &R,
+    alloc: Global,
+    script: String,
+    report: &str,
+) -> Result<bool, AllocError> {
     let mut words = Words::new(alloc);
     words.push("play")?;
     let mut input = Bytes::new(script.into_bytes(), ROOM, Vec::new(alloc));
