@@ -29,7 +29,7 @@ leaves_more [] entry last stays = ((λ _. refl), tt)
 leaves_more (first ∷ entries) entry last stays = let later = ends_later first entries last stays in ((λ leaves. absurd (later.0 leaves)), leaves_more entries entry last.1 later.1)
 
 -- a writer's entries after one more, which is its own or not
-own_leaves : (writer : ℕ) (history : List Entry) (entry : Entry) (own : Bool) → (entry.caller == writer) ≡ own → LeavesLast (own_entries writer history) → (own ≡ true → has_left writer history ≡ false) →
+pub own_leaves : (writer : ℕ) (history : List Entry) (entry : Entry) (own : Bool) → (entry.caller == writer) ≡ own → LeavesLast (own_entries writer history) → (own ≡ true → has_left writer history ≡ false) →
     LeavesLast (own_entries writer (history ++ entry ∷ []))
 own_leaves writer history entry true is last stays = rw (own_entries_own writer history entry is) (leaves_more (own_entries writer history) entry last (stays refl))
 own_leaves writer history entry false is last stays = rw (own_entries_other writer history entry is) last

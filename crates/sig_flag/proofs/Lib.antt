@@ -2,7 +2,7 @@ mod Closes
 mod Empties
 mod Fronts
 mod Gathers
-mod Gives
+pub mod Gives
 mod Laid
 mod Looks
 mod Opens

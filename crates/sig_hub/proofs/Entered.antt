@@ -2,13 +2,14 @@
 use Rattle.std.proofs.Common.{◌≡◌, ◌∙◌, ℕ, zero, suc, ◌<◌, ◌==◌, List, [], ◌∷◌, ◌++◌, length, get_or, set, Bool, true, false, not, None, Result, Ok, Err, IfOk, IfErr, OnOk, OnErr, inl, inr, refl, sym, ap, subst, eq-eqb, arith}
 use Rattle.std.proofs.lemmas.Bool.{eqb-true, and_parts}
 use Rattle.std.proofs.lemmas.List.{get_or-set_same, get_or-set_other, length-set}
+use Rattle.sig_flag.proofs.Gives.{own_leaves}
 use Rattle.sig_flag.specs.Accounts.{no_plan, opening_knowledge, known, after_turn, after_give}
 use Rattle.sig_flag.specs.Machines.{account, IsMet, IsNext, IsSameSeat}
-use Rattle.sig_flag.specs.Told.{IsHistory, LeavesLast}
+use Rattle.sig_flag.specs.Told.{IsHistory}
 use Rattle.sig_flag.specs.declared.accounts.Account.{Account}
 use Rattle.sig_flag.specs.declared.accounts.Knowledge.{Knowledge}
-use Rattle.sig_hist.proofs.Entries.{own_entries_own, own_entries_other}
-use Rattle.sig_hist.specs.Histories.{own_entries, is_leave, ends_with_leave, has_left}
+use Rattle.sig_hist.proofs.Entries.{own_entries_own}
+use Rattle.sig_hist.specs.Histories.{own_entries, ends_with_leave, has_left}
 use Rattle.sig_hist.specs.Sources.{Source, IsIn, IsSource, IsRefusal, allowed, entered, is_among, writers_of}
 use Rattle.sig_hist.specs.declared.edits.Edit.{Edit}
 use Rattle.sig_hist.specs.declared.edits.Entry.{Entry}
@@ -19,22 +20,6 @@ use Rattle.sig_hist.specs.declared.plans.SourcePlan.{SourcePlan}
 use Rattle.sig_hub.proofs.InTurn.{reads}
 use Rattle.sig_hub.specs.Passes.{Pass, pass_of, plan_in, seen, Writes, IsSamePass, HasMade, HasMadeNone, IsRefused}
 use Rattle.sig_hub.specs.Turns.{PassSeat, its_plan, its_history, HasTaken, MayEnd, HasGiven, IsAfter}
-
--- ---- nothing comes after a leave
-
-ends_later : (first : Entry) (entries : List Entry) → LeavesLast (first ∷ entries) → ends_with_leave (first ∷ entries) ≡ false → (is_leave first.edit ≡ true → ⊥) × (ends_with_leave entries ≡ false)
-ends_later first [] last stays = ((λ leaves. absurd (cc)), refl)
-ends_later first (second ∷ entries) last stays = ((λ leaves. let none = last.0 leaves in absurd (cc)), stays)
-
-leaves_more : (entries : List Entry) (entry : Entry) → LeavesLast entries → ends_with_leave entries ≡ false → LeavesLast (entries ++ entry ∷ [])
-leaves_more [] entry last stays = ((λ _. refl), tt)
-leaves_more (first ∷ entries) entry last stays = let later = ends_later first entries last stays in ((λ leaves. absurd (later.0 leaves)), leaves_more entries entry last.1 later.1)
-
--- a writer's entries after one more, which is its own or not
-own_leaves : (writer : ℕ) (history : List Entry) (entry : Entry) (own : Bool) → (entry.caller == writer) ≡ own → LeavesLast (own_entries writer history) → (own ≡ true → has_left writer history ≡ false) →
-    LeavesLast (own_entries writer (history ++ entry ∷ []))
-own_leaves writer history entry true is last stays = rw (own_entries_own writer history entry is) (leaves_more (own_entries writer history) entry last (stays refl))
-own_leaves writer history entry false is last stays = rw (own_entries_other writer history entry is) last
 
 -- ---- a source that the pass writes
 
