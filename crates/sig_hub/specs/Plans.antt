@@ -23,11 +23,7 @@ pub record HasFairCounts (plan : HubPlan) : Type 0 where
   pub few_passes : plan.writers + plan.pollers < 2 ^ 32
 
 pub record IsSound (plan : HubPlan) : Type 0 where
-  pub some_source : 0 < length plan.sources
-  pub some_poller : 0 < plan.pollers
-  pub few_sources : length plan.sources < 2 ^ 32
-  pub few_tasks : length plan.tasks < 2 ^ 32
-  pub few_passes : plan.writers + plan.pollers < 2 ^ 32
+  pub counts : HasFairCounts plan
   pub sources : All (IsSourceBy plan.writers) plan.sources
   pub leaves : All (IsLeafOf (length plan.sources) (length plan.tasks)) plan.leaves
   pub tasks : All (λ poller. poller < plan.pollers) plan.tasks
