@@ -1,7 +1,7 @@
 -- Histories that go on from one another, and what a seat knows of them.
 use Rattle.std.proofs.Common.{◌≡◌, ◌∙◌, ℕ, zero, suc, ◌≤◌, List, [], ◌∷◌, length, take, refl, sym, ap, arith}
 use Rattle.std.proofs.lemmas.List.{length-take, take_all}
-use Rattle.sig_flag.specs.Told.{IsKnown}
+use Rattle.sig_flag.specs.Turns.{IsKnown}
 use Rattle.sig_flag.specs.declared.accounts.Knowledge.{Knowledge}
 use Rattle.sig_hist.specs.Histories.{IsFront, own_entries}
 use Rattle.sig_hist.specs.declared.edits.Entry.{Entry}

@@ -1,20 +1,26 @@
 -- The accounts of all seats come to one seat.
-use Rattle.std.proofs.Common.{◌≡◌, ◌∙◌, ℕ, zero, suc, ◌+◌, ◌-◌, ◌≢◌, ◌==◌, ⊎_elim, List, [], ◌∷◌, ◌++◌, length, take, map, set, cond, Bool, Option, All, refl, sym, ap, subst, eq-eqb, ne_eqb, append_assoc, arith}
+use Rattle.std.proofs.Common.{◌≡◌, ◌∙◌, ℕ, zero, suc, ◌+◌, ◌-◌, ◌≢◌, ◌==◌, ⊎_elim, List, [], ◌∷◌, ◌++◌, length, take, map, set, cond, Bool, true, Option, All, refl, sym, ap, subst, eq-eqb, ne_eqb, append_assoc, arith}
 use Rattle.std.proofs.lemmas.List.{length_push, length-append, length-take, get_or_append_left, get_or_push, map-append}
+use mathlib.Core.Logic.{dite}
 use mathlib.Core.Option as slot
+use native.Mathlib.Decide.{ℕ_discrete}
 use mathlib.Core.Option.{some-injective, some-ne-none}
 use lib.ListN.{get_elem?}
 use Rattle.atomic_table.specs.Seated.{TableId}
 use Rattle.atomic_table.specs.Table.{State, Joins}
 use Rattle.atomic_table.specs.declared.shared.Seat.{Seat}
-use Rattle.atomic_table.proofs.Lists.{at_set, set_else}
+use Rattle.atomic_table.proofs.Lists.{at_set, set_here, set_else, at_longer}
+use Rattle.sig_flag.proofs.Keeping.{Whole, rings_of, tells_of, moved}
 use Rattle.sig_flag.proofs.Peels.{moved_account}
-use Rattle.sig_flag.proofs.Stepping.{Rule}
+use Rattle.sig_flag.proofs.Stepping.{Rule, Turned, within}
 use Rattle.sig_flag.specs.Closing.{Rests}
+use Rattle.sig_flag.specs.Layouts.{Layout}
 use Rattle.sig_flag.specs.Machines.{account}
 use Rattle.sig_flag.specs.Plays.{with_others, no_account}
-use Rattle.sig_flag.specs.Told.{IsAccount}
+use Rattle.sig_flag.specs.Told.{IsOwed}
+use Rattle.sig_flag.specs.Turns.{IsAccount}
 use Rattle.sig_flag.specs.declared.accounts.Account.{Account}
+use Rattle.sig_hist.specs.Sources.{is_among}
 use Rattle.sig_hist.specs.declared.edits.Entry.{Entry}
 use Rattle.sig_hist.specs.declared.plans.SourcePlan.{SourcePlan}
 
@@ -97,23 +103,78 @@ module _ {V : Type 0} (plan_of : V → SourcePlan) (history_of : V → List Entr
   gathered_apart view one two all a b (spent none) is_one is_two same = absurd (some-ne-none a (sym (subst (λ (l : List Account). get_elem? l one ≡ slot.some a) (sym none) is_one)))
   gathered_apart view one two all a b (elsewhere _ _ is_all) is_one is_two same = told.apart view one two all a b is_all is_one is_two same
 
-  gathered : Rule plan_of history_of plans seats (record { words = s.words; homes = s.homes; views = set (set s.views id (others ++ own)) other no_account })
-  gathered = record {
-    history = told.history;
-    holder = told.holder;
-    place = places;
-    wide = told.wide;
-    sources = told.sources;
-    turns = told.turns;
-    holders = told.holders;
-    accounts = λ view index all account is_view. gathered_account view index all account (lies s.views id other (others ++ own) view all is_view);
-    apart = λ view one two all a b is_view. gathered_apart view one two all a b (lies s.views id other (others ++ own) view all is_view);
+  gathered : Turned plan_of history_of plans seats (record { words = s.words; homes = s.homes; views = set (set s.views id (others ++ own)) other no_account }) told.history
+  gathered = (
+    record {
+      history = told.history;
+      holder = told.holder;
+      place = places;
+      wide = told.wide;
+      sources = told.sources;
+      turns = told.turns;
+      holders = told.holders;
+      accounts = λ view index all account is_view. gathered_account view index all account (lies s.views id other (others ++ own) view all is_view);
+      apart = λ view one two all a b is_view. gathered_apart view one two all a b (lies s.views id other (others ++ own) view all is_view);
+    },
+    refl,
+  )
+
+at_back : {X : Type 0} (xs ys : List X) (at : ℕ) (x : X) → get_elem? ys at ≡ slot.some x → get_elem? (xs ++ ys) (length xs + at) ≡ slot.some x
+at_back [] ys at x is = subst (λ (k : ℕ). get_elem? ys k ≡ slot.some x) (let same : at ≡ 0 + at = omega arith in same) is
+at_back (first ∷ xs) ys at x is = subst (λ (k : ℕ). get_elem? (first ∷ xs ++ ys) k ≡ slot.some x) (let same : suc (length xs + at) ≡ suc (length xs) + at = omega arith in same) (at_back xs ys at x is)
+
+-- what somebody has to do somebody has to do after the join
+module _ (owed : Account → List ℕ) (views : List (List Account)) (id other : ℕ) (own others : List Account) (different : other ≢ id) (at_id : get_elem? views id ≡ slot.some own) (at_other : get_elem? views other ≡ slot.some others) where
+  owed_there : (index what : ℕ) (account : Account) → get_elem? (others ++ own) index ≡ slot.some account → is_among what (owed account) ≡ true → IsOwed owed (set (set views id (others ++ own)) other no_account) what
+  owed_there index what account is owes = record {
+    view = id;
+    at = index;
+    all = others ++ own;
+    account = account;
+    is_view = set_else (set views id (others ++ own)) other id no_account (λ same. different (sym same)) ∙ set_here views id (others ++ own) (within views id own at_id);
+    is_account = is;
+    owes = owes;
   }
 
-pub gathers : {V : Type 0} (plan_of : V → SourcePlan) (history_of : V → List Entry) (plans : List SourcePlan) (seats id : ℕ) (own : List Account) (other : ℕ) (others : List Account) →
-    Joins (Rule plan_of history_of plans seats) id own other others (with_others own others) no_account
-gathers plan_of history_of plans seats id own other others s told at_id different at_other =
-    gathered plan_of history_of plans seats s told id other own others different at_id (sym (set_else s.views id other (others ++ own) different) ∙ at_other)
+  gathered_owed : (what : ℕ) → IsOwed owed views what → IsOwed owed (set (set views id (others ++ own)) other no_account) what
+  gathered_owed what was = dite (ℕ_discrete was.view id)
+      (λ same.
+      let all_is : own ≡ was.all = some-injective own was.all (sym at_id ∙ ap (get_elem? views) (sym same) ∙ was.is_view) in
+      owed_there (length others + was.at) what was.account (at_back others own was.at was.account (subst (λ (l : List Account). get_elem? l was.at ≡ slot.some was.account) (sym all_is) was.is_account)) was.owes)
+      (λ not_id. dite (ℕ_discrete was.view other)
+      (λ same.
+      let all_is : others ≡ was.all = some-injective others was.all (sym at_other ∙ ap (get_elem? views) (sym same) ∙ was.is_view) in
+      owed_there was.at what was.account (at_longer others own was.at was.account (subst (λ (l : List Account). get_elem? l was.at ≡ slot.some was.account) (sym all_is) was.is_account)) was.owes)
+      (λ not_other. record {
+        view = was.view;
+        at = was.at;
+        all = was.all;
+        account = was.account;
+        is_view = set_else (set views id (others ++ own)) other was.view no_account not_other ∙ set_else views id was.view (others ++ own) not_id ∙ was.is_view;
+        is_account = was.is_account;
+        owes = was.owes;
+      }))
+
+module _ {V : Type 0} (plan_of : V → SourcePlan) (history_of : V → List Entry) (layout : Layout) where
+  gathered_whole : (s : State (Option V) (List Account)) (told : Whole plan_of history_of layout s) (id other : ℕ) (own others : List Account) → other ≢ id → get_elem? s.views id ≡ slot.some own → get_elem? s.views other ≡ slot.some others →
+      Whole plan_of history_of layout (record { words = s.words; homes = s.homes; views = set (set s.views id (others ++ own)) other no_account })
+  gathered_whole s told id other own others different at_id at_other =
+      let seen = set (set s.views id (others ++ own)) other no_account in
+      moved plan_of history_of layout s told seen (gathered plan_of history_of layout.plans layout.seats s told.turns id other own others different at_id at_other)
+      (λ what. gathered_owed rings_of s.views id other own others different at_id at_other what) (λ what. gathered_owed tells_of s.views id other own others different at_id at_other what)
+      (λ view index all account is_view is_account. elim (lies s.views id other (others ++ own) view all is_view) [
+        | at_both here is_all ↦ elim (is_at others own index account (subst (λ (l : List Account). get_elem? l index ≡ slot.some account) (sym is_all) is_account)) [
+          | front first ↦ told.watching other index others account at_other first
+          | back k _ second ↦ told.watching id k own account at_id second
+        ]
+        | spent none ↦ absurd (some-ne-none account (sym (subst (λ (l : List Account). get_elem? l index ≡ slot.some account) (sym none) is_account)))
+        | elsewhere not_id not_other is_all ↦ told.watching view index all account is_all is_account
+      ])
+
+pub gathers : {V : Type 0} (plan_of : V → SourcePlan) (history_of : V → List Entry) (layout : Layout) (id : ℕ) (own : List Account) (other : ℕ) (others : List Account) →
+    Joins (Whole plan_of history_of layout) id own other others (with_others own others) no_account
+gathers plan_of history_of layout id own other others s told at_id different at_other =
+    gathered_whole plan_of history_of layout s told id other own others different at_id (sym (set_else s.views id other (others ++ own) different) ∙ at_other)
 
 -- ---- the loop
 

@@ -3,11 +3,16 @@ mod Empties
 mod Fronts
 mod Gathers
 pub mod Gives
+mod Keeping
 mod Laid
 mod Looks
 mod Opens
+mod Owing
 mod Peels
 mod Reaches
+mod Readies
+mod Rings
 mod Shown
 mod Stepping
 mod Takes
+mod Watching

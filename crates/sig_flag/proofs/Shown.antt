@@ -4,7 +4,7 @@ use Rattle.std.proofs.lemmas.Bool.Decides.{nat_tests}
 use Rattle.std.proofs.lemmas.Nat.{or_shifted, or_block}
 use Rattle.std.specs.Int.Bits.{bit_or, or_zero_r}
 use mathlib.Core.Option as slot
-use Rattle.sig_flag.specs.Told.{IsTurn}
+use Rattle.sig_flag.specs.Turns.{IsTurn}
 use Rattle.sig_flag.specs.Words.{word_of, is_held}
 use Rattle.sig_hist.specs.Histories.{is_closed}
 use Rattle.sig_hist.specs.Sources.{writers_of}

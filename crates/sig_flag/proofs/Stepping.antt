@@ -1,5 +1,5 @@
 -- One step of a seat at one source keeps the told rule, where the seat's own account fits after it and the others may stay.
-use Rattle.std.proofs.Common.{◌≡◌, ◌∙◌, ℕ, zero, suc, ◌<◌, ◌≢◌, ◌⊎◌, List, [], ◌∷◌, length, get_or, set, cond, Bool, Option, Some, refl, sym, ap, subst, inl, inr, ⊎_elim, eq-eqb, ne_eqb, arith}
+use Rattle.std.proofs.Common.{◌≡◌, ◌∙◌, ℕ, zero, suc, ◌<◌, ◌≤◌, ◌≢◌, ◌⊎◌, List, [], ◌∷◌, length, get_or, set, cond, Bool, Option, Some, refl, sym, ap, subst, inl, inr, ⊎_elim, eq-eqb, ne_eqb, arith}
 use Rattle.std.proofs.lemmas.List.{get_or-set_same, get_or-set_other, length-set}
 use mathlib.Core.Logic.{dite}
 use mathlib.Core.Option as slot
@@ -10,7 +10,7 @@ use Rattle.atomic_table.specs.Table.{State}
 use Rattle.atomic_table.proofs.Lists.{at_set}
 use Rattle.sig_flag.proofs.Fronts.{still_known, front_of_itself}
 use Rattle.sig_flag.specs.Accounts.{plan_at, known, knowing}
-use Rattle.sig_flag.specs.Told.{IsHistory, IsKnown, IsTurn, IsAccount, Told}
+use Rattle.sig_flag.specs.Turns.{IsHistory, IsKnown, IsTurn, IsAccount, HasTurns}
 use Rattle.sig_flag.specs.declared.accounts.Account.{Account}
 use Rattle.sig_flag.specs.declared.accounts.Knowledge.{Knowledge}
 use Rattle.sig_hist.specs.Histories.{IsFront, own_entries}
@@ -32,6 +32,10 @@ by_place {X} {Y} P f g at x y here others k =
     dite (ℕ_discrete k at)
     (λ same. subst (λ (j : ℕ). P j (put f at x j) (put g at y j)) (sym same) (subst (λ (v : X). P at v (put g at y at)) (sym (put_here f at x)) (subst (P at x) (sym (put_here g at y)) here)))
     (λ other. subst (λ (v : X). P k v (put g at y k)) (sym (put_else f at k x other)) (subst (P k (f k)) (sym (put_else g at k y other)) (others k other)))
+
+-- with the value that it has there, a function stays the same
+pub put_same : {X : Type 0} (f : ℕ → X) (at k : ℕ) → put f at (f at) k ≡ f k
+put_same f at k = by_place (λ k x _. x ≡ f k) f f at (f at) (f at) refl (λ k _. refl) k
 
 -- ---- accounts
 
@@ -105,12 +109,17 @@ module _ (plans : List SourcePlan) (seats : ℕ) (history : ℕ → List Entry) 
 
 -- ---- the rule
 
+pub within : {X : Type 0} (xs : List X) (at : ℕ) (x : X) → get_elem? xs at ≡ slot.some x → at < length xs
+within [] at x is = absurd (some-ne-none x (sym is))
+within (first ∷ xs) zero x is = omega arith
+within (first ∷ xs) (suc at) x is = let later = within xs at x is in omega arith
+
 pub alone : (account found : Account) (at : ℕ) → get_elem? (account ∷ []) at ≡ slot.some found → (at ≡ 0) × (account ≡ found)
 alone account found zero is = (refl, some-injective account found is)
 alone account found (suc at) is = absurd (some-ne-none found (sym is))
 
 -- an account of the views after a step is the seat's own, or lies where it lay
-found : (views : List (List Account)) (id : ℕ) (new : Account) (view at : ℕ) (all : List Account) (account : Account) → get_elem? (set views id (new ∷ [])) view ≡ slot.some all → get_elem? all at ≡ slot.some account →
+pub found : (views : List (List Account)) (id : ℕ) (new : Account) (view at : ℕ) (all : List Account) (account : Account) → get_elem? (set views id (new ∷ [])) view ≡ slot.some all → get_elem? all at ≡ slot.some account →
     ((view ≡ id) × (at ≡ 0) × (new ≡ account)) ⊎ ((view ≢ id) × (get_elem? views view ≡ slot.some all))
 found views id new view at all account is_view is_account =
     ⊎_elim
@@ -120,7 +129,11 @@ found views id new view at all account is_view is_account =
 
 module _ {V : Type 0} (plan_of : V → SourcePlan) (history_of : V → List Entry) (plans : List SourcePlan) (seats : ℕ) where
   abbrev pub Rule : State (Option V) (List Account) → Type 0
-  Rule = Told plan_of history_of plans seats
+  Rule = HasTurns plan_of history_of plans seats
+
+  -- the rule, and the histories with which it holds
+  abbrev pub Turned : State (Option V) (List Account) → (ℕ → List Entry) → Type 0
+  Turned s history = (turns : Rule s) × (turns.history ≡ history)
 
   pub stepped_rule : (s : State (Option V) (List Account)) (told : Rule s) (id source : ℕ) (old new : Account) (after : List Entry) (held : Option ℕ) (word : ℕ) (homes : List (slot.Option (Option V))) →
       source < length plans → get_elem? s.views id ≡ slot.some (old ∷ []) →
@@ -128,32 +141,72 @@ module _ {V : Type 0} (plan_of : V → SourcePlan) (history_of : V → List Entr
       IsHistory (plan_at plans source) after → IsTurn plan_of history_of (plan_at plans source) after held word (get_or homes source slot.none) →
       ((k : ℕ) → k ≢ source → get_or homes k slot.none ≡ get_or s.homes k slot.none) →
       ((number : ℕ) → held ≡ Some number → number < seats) →
-      Rule (record { words = set s.words source word; homes = homes; views = set s.views id (new ∷ []) })
+      Turned (record { words = set s.words source word; homes = homes; views = set s.views id (new ∷ []) }) (put told.history source after)
   stepped_rule s told id source old new after held word homes within at passes changes legal turn other_homes holder_seat =
       let mine = told.accounts id 0 (old ∷ []) old at refl in
       let histories = put told.history source after in
       let holders = put told.holder source held in
-      let wide : source < length s.words = omega (arith, told.wide) in
-      record {
-        history = histories;
-        holder = holders;
-        place = told.place;
-        wide = omega (arith, told.wide, length-set {A = ℕ});
-        sources = by_place (λ k entries _. k < length plans → IsHistory (plan_at plans k) entries) told.history told.holder source after held (λ _. legal) (λ k _ near. told.sources k near);
-        turns = by_place (λ k entries who. k < length plans → IsTurn plan_of history_of (plan_at plans k) entries who (get_or (set s.words source word) k 0) (get_or homes k slot.none)) told.history told.holder source after held
-            (λ _. subst (λ (w : ℕ). IsTurn plan_of history_of (plan_at plans source) after held w (get_or homes source slot.none)) (sym (get_or-set_same s.words source word 0 wide)) turn)
-            (λ k other near. rw (get_or-set_other s.words source k word 0 other, other_homes k other) (told.turns k near));
-        holders = λ k number near. by_place (λ k _ who. k < length plans → who ≡ Some number → number < seats) told.history told.holder source after held
-            (λ _. holder_seat number) (λ k _ near. told.holders k number near) k near;
-        accounts = λ view at all account is_view is_account. ⊎_elim
-            (λ own. subst (λ (z : ℕ × Account). IsAccount plans seats histories holders told.place z.0 z.1) (λ i. (sym own.0 i, own.2 i))
-            (own_account plans seats told.history told.holder told.place source after held id old new within mine changes))
-            (λ kept. let is = told.accounts view at all account kept.1 is_account in
-            other_account plans seats told.history told.holder told.place source after held old.number view account is
-            (λ same. kept.0 (sym is.at_place ∙ ap told.place same ∙ mine.at_place)) passes)
-            (found s.views id new view at all account is_view is_account);
-        apart = λ view one other all a b is_view is_one is_other same. ⊎_elim
-            (λ first. ⊎_elim (λ second. first.1 ∙ sym second.1) (λ kept. absurd (kept.0 first.0)) (found s.views id new view other all b is_view is_other))
-            (λ kept. told.apart view one other all a b kept.1 is_one is_other same)
-            (found s.views id new view one all a is_view is_one);
-      }
+      let wide : source < length s.words = omega (arith, told.wide) in (
+        record {
+          history = histories;
+          holder = holders;
+          place = told.place;
+          wide = omega (arith, told.wide, length-set {A = ℕ});
+          sources = by_place (λ k entries _. k < length plans → IsHistory (plan_at plans k) entries) told.history told.holder source after held (λ _. legal) (λ k _ near. told.sources k near);
+          turns = by_place (λ k entries who. k < length plans → IsTurn plan_of history_of (plan_at plans k) entries who (get_or (set s.words source word) k 0) (get_or homes k slot.none)) told.history told.holder source after held
+              (λ _. subst (λ (w : ℕ). IsTurn plan_of history_of (plan_at plans source) after held w (get_or homes source slot.none)) (sym (get_or-set_same s.words source word 0 wide)) turn)
+              (λ k other near. rw (get_or-set_other s.words source k word 0 other, other_homes k other) (told.turns k near));
+          holders = λ k number near. by_place (λ k _ who. k < length plans → who ≡ Some number → number < seats) told.history told.holder source after held
+              (λ _. holder_seat number) (λ k _ near. told.holders k number near) k near;
+          accounts = λ view at all account is_view is_account. ⊎_elim
+              (λ own. subst (λ (z : ℕ × Account). IsAccount plans seats histories holders told.place z.0 z.1) (λ i. (sym own.0 i, own.2 i))
+              (own_account plans seats told.history told.holder told.place source after held id old new within mine changes))
+              (λ kept. let is = told.accounts view at all account kept.1 is_account in
+              other_account plans seats told.history told.holder told.place source after held old.number view account is
+              (λ same. kept.0 (sym is.at_place ∙ ap told.place same ∙ mine.at_place)) passes)
+              (found s.views id new view at all account is_view is_account);
+          apart = λ view one other all a b is_view is_one is_other same. ⊎_elim
+              (λ first. ⊎_elim (λ second. first.1 ∙ sym second.1) (λ kept. absurd (kept.0 first.0)) (found s.views id new view other all b is_view is_other))
+              (λ kept. told.apart view one other all a b kept.1 is_one is_other same)
+              (found s.views id new view one all a is_view is_one);
+        },
+        refl,
+      )
+
+  -- the seat's own account, with all that the rule speaks of as it was
+  same_account : (history : ℕ → List Entry) (holder : ℕ → Option ℕ) (place : ℕ → ℕ) (view : ℕ) (old new : Account) → new.number ≡ old.number → new.knows ≡ old.knows → new.turn ≡ old.turn →
+      IsAccount plans seats history holder place view old → IsAccount plans seats history holder place view new
+  same_account history holder place view old new number knows turn is = record {
+    at_place = ap place number ∙ is.at_place;
+    of_seat = rw number is.of_seat;
+    of_plans = ap length knows ∙ is.of_plans;
+    knows = λ source within. rw (number, knows) (is.knows source within);
+    has_turn = λ source has. rw (number, knows) (is.has_turn source (sym turn ∙ has));
+    only = λ source within holds. turn ∙ is.only source within (holds ∙ ap Some number);
+  }
+
+  -- a step at a word that is no source's
+  pub aside_rule : (s : State (Option V) (List Account)) (told : Rule s) (id at_word word : ℕ) (old new : Account) → length plans ≤ at_word → get_elem? s.views id ≡ slot.some (old ∷ []) →
+      new.number ≡ old.number → new.knows ≡ old.knows → new.turn ≡ old.turn → Turned (record { words = set s.words at_word word; homes = s.homes; views = set s.views id (new ∷ []) }) told.history
+  aside_rule s told id at_word word old new beyond at number knows turn =
+      let mine = told.accounts id 0 (old ∷ []) old at refl in (
+        record {
+          history = told.history;
+          holder = told.holder;
+          place = told.place;
+          wide = omega (arith, told.wide, length-set {A = ℕ});
+          sources = told.sources;
+          turns = λ source within. rw (get_or-set_other s.words at_word source word 0 (λ same. absurd (omega arith))) (told.turns source within);
+          holders = told.holders;
+          accounts = λ view index all account is_view is_account. ⊎_elim
+              (λ own. subst (λ (z : ℕ × Account). IsAccount plans seats told.history told.holder told.place z.0 z.1) (λ i. (sym own.0 i, own.2 i))
+              (same_account told.history told.holder told.place id old new number knows turn mine))
+              (λ kept. told.accounts view index all account kept.1 is_account)
+              (found s.views id new view index all account is_view is_account);
+          apart = λ view one other all a b is_view is_one is_other same. ⊎_elim
+              (λ first. ⊎_elim (λ second. first.1 ∙ sym second.1) (λ kept. absurd (kept.0 first.0)) (found s.views id new view other all b is_view is_other))
+              (λ kept. told.apart view one other all a b kept.1 is_one is_other same)
+              (found s.views id new view one all a is_view is_one);
+        },
+        refl,
+      )

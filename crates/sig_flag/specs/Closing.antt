@@ -1,14 +1,23 @@
 -- A machine's table at its end.
-use Rattle.std.specs.Prelude.{◌≡◌, ℕ, ◌<◌, List, [], length, slice_get, Option, Some}
+use Rattle.std.specs.Prelude.{◌≡◌, ℕ, ◌+◌, ◌<◌, ◌==◌, List, [], length, slice_get, slice_index_or, Bool, false, Option, Some, ◌⊎◌, All}
 use Rattle.atomic_table.specs.Seated.{TableId}
 use Rattle.atomic_table.specs.declared.shared.Seat.{Seat}
-use Rattle.sig_flag.specs.Accounts.{plan_at}
-use Rattle.sig_flag.specs.Machines.{account, Has, IsLast}
+use Rattle.sig_flag.specs.Accounts.{plan_at, watch, hold}
+use Rattle.sig_flag.specs.Layouts.{Layout, leaf_at, ready_of}
+use Rattle.sig_flag.specs.Machines.{account, Has, OwesNothing, IsLast}
 use Rattle.sig_flag.specs.declared.accounts.Account.{Account}
+use Rattle.sig_hist.specs.OneThread.{version_of}
 use Rattle.sig_hist.specs.declared.edits.Entry.{Entry}
 use Rattle.sig_hist.specs.declared.plans.SourcePlan.{SourcePlan}
+use Rattle.sig_hist.specs.declared.ports.Condition.TheVariants.{Waiting}
+use Rattle.sig_hist.specs.declared.ports.Version.{Version}
 use lib.ListN.{get_elem?}
 use mathlib.Core.Option.{some}
+
+-- whether the words from the first on, so many, are 1
+pub record AreReady (words : List ℕ) (first count : ℕ) (ready : List Bool) : Type 0 where
+  pub all : length ready ≡ count
+  pub each : (k word : ℕ) → k < count → get_elem? words (first + k) ≡ some word → slice_index_or ready k false ≡ (word == 1)
 
 module _ {V : Type 0} where
   -- the seat is at the table, and has its account and no state
@@ -26,6 +35,13 @@ module _ {V : Type 0} where
     pub each : (k : ℕ) (state : V) → slice_get states k ≡ Some state → get_elem? slots k ≡ some (Some state)
 
 module _ {V : Type 0} (plan_of : V → SourcePlan) (history_of : V → List Entry) where
+  -- no task waits untold, by the words and the slots
+  pub record AreHeard (layout : Layout) (seats : List (Seat (Option V) (List Account))) (words : List ℕ) (slots : List (Option V)) : Type 0 where
+    pub each : All OwesNothing seats → (leaf : ℕ) (version : Version) (state : V) → leaf < length layout.leaves → get_elem? slots (leaf_at layout.leaves leaf).source ≡ some (Some state) →
+        All (λ seat. (watch (account seat) leaf).condition ≡ Waiting version →
+        (version_of (record { plan = plan_at layout.plans (leaf_at layout.leaves leaf).source; history = history_of state }) ≡ version)
+        ⊎ ((get_elem? words (ready_of layout (leaf_at layout.leaves leaf).task) ≡ some 1) ⊎ (0 < (hold (account seat) (leaf_at layout.leaves leaf).task).tokens))) seats
+
   -- each source's state is in its slot
   pub record IsShut (plans : List SourcePlan) (seats : List (Seat (Option V) (List Account))) (slots : List (Option V)) : Type 0 where
     pub counted : length slots ≡ length plans

@@ -1,8 +1,10 @@
 pub mod Accounts
 pub mod Closing
+pub mod Layouts
 pub mod Machines
 pub mod Opening
 pub mod Plays
 pub mod Told
 pub mod Trial
+pub mod Turns
 pub mod Words

@@ -1,9 +1,10 @@
 -- What the calls of a machine ask and tell.
-use Rattle.std.specs.Prelude.{◌≡◌, ℕ, ◌<◌, ◌≤◌, List, [], ◌∷◌, ◌++◌, length, map, slice_get, Bool, true, Option, None, Some, ◌⊎◌, All}
+use Rattle.std.specs.Prelude.{◌≡◌, ℕ, ◌<◌, ◌≤◌, ◌^◌, List, [], ◌∷◌, ◌++◌, length, map, slice_get, slice_index, slice_index_or, Bool, true, false, Option, None, Some, ◌⊎◌, All}
 use Rattle.atomic_table.specs.Seated.{TableId}
 use Rattle.atomic_table.specs.declared.shared.Seat.{Seat}
-use Rattle.sig_flag.specs.Accounts.{account_of, known, opening_account, after_turn, after_held, plan_at}
-use Rattle.sig_flag.specs.Told.{IsHistory, IsKnown}
+use Rattle.sig_flag.specs.Accounts.{account_of, known, watch, hold, opening_account, after_turn, after_held, plan_at}
+use Rattle.sig_flag.specs.Layouts.{Layout, IsLeafOf, leaf_at, words_of, poller_of}
+use Rattle.sig_flag.specs.Turns.{IsHistory, IsKnown}
 use Rattle.sig_flag.specs.Words.{is_held}
 use Rattle.sig_flag.specs.declared.accounts.Account.{Account}
 use Rattle.sig_flag.specs.declared.accounts.Knowledge.{Knowledge}
@@ -11,24 +12,33 @@ use Rattle.sig_flag.specs.declared.flags.Taken.{Taken}
 use Rattle.sig_flag.specs.declared.flags.Taken.TheVariants.{Turn, Held}
 use Rattle.sig_flag.specs.declared.shape.FlagShape.{FlagShape}
 use Rattle.sig_hist.specs.Histories.{IsFront, is_closed, own_entries}
+use Rattle.sig_hist.specs.OneThread.{version_of}
 use Rattle.sig_hist.specs.Sources.{IsPlan, IsIn, IsSource, writers_of}
 use Rattle.sig_hist.specs.declared.edits.Entry.{Entry}
 use Rattle.sig_hist.specs.declared.plans.SourcePlan.{SourcePlan}
+use Rattle.sig_hist.specs.declared.ports.Condition.TheVariants.{Waiting}
 use Rattle.sig_hist.specs.declared.ports.Version.{Version}
 
--- a machine: its table, the plans of its sources and how many seats it has
+-- a machine: its table, and what it is made for
 pub record Machine : Type 0 where
   pub id : TableId
-  pub plans : List SourcePlan
-  pub seats : ℕ
+  pub layout : Layout
 
--- a table with a word and a slot for each source, beside the room for their states at the end
-pub record IsLaid {V : Type 0} (id : TableId) (sources : ℕ) (held : List V) (room : ℕ) : Type 0 where
-  pub some_source : 0 < sources
-  pub of_words : id.words ≡ sources
-  pub of_slots : id.slots ≡ sources
+abbrev pub layout_by : {V : Type 0} → (V → SourcePlan) → FlagShape → List V → Layout
+layout_by plan_of shape states = record { plans = map plan_of states; leaves = shape.leaves; pollers = shape.tasks; seats = shape.seats }
+
+-- room for so many, of which none is there yet
+pub record IsRoom {X : Type 0} (held : List X) (room count : ℕ) : Type 0 where
   pub empty : held ≡ []
-  pub reserved : sources ≤ room
+  pub reserved : count ≤ room
+
+-- a table with all words of a layout, and a slot for each of its sources
+pub record IsLaid (id : TableId) (layout : Layout) : Type 0 where
+  pub some_source : 0 < length layout.plans
+  pub of_words : id.words ≡ words_of layout
+  pub of_slots : id.slots ≡ length layout.plans
+  pub few : words_of layout < 2 ^ 64
+  pub leaves : All (IsLeafOf (length layout.plans) (length layout.pollers)) layout.leaves
 
 module _ {V : Type 0} where
   abbrev pub account : Seat (Option V) (List Account) → Account
@@ -53,9 +63,14 @@ module _ {V : Type 0} where
     pub turn : (account seat).turn ≡ Some source
     pub slot : seat.me.1 ≡ (source, state) ∷ []
 
+  -- the seat has nothing to ring and nothing to tell
+  pub record OwesNothing (seat : Seat (Option V) (List Account)) : Type 0 where
+    pub no_ring : (account seat).rings ≡ []
+    pub no_tell : (account seat).tells ≡ []
+
   -- all seats are back, and none has a turn. There are never more than so many, since their numbers differ
   pub record AreBack (machine : Machine) (seats : List (Seat (Option V) (List Account))) : Type 0 where
-    pub all : machine.seats ≤ length seats
+    pub all : machine.layout.seats ≤ length seats
     pub at_rest : All (λ seat. Sits machine seat × HasNoTurn seat) seats
 
   -- the seat after a step, with this account and with this in its slots
@@ -66,6 +81,18 @@ module _ {V : Type 0} where
 pub record IsShown (knowledge : Knowledge) (version : Version) : Type 0 where
   pub count : knowledge.count ≤ version.count
   pub closed : version.count ≡ length knowledge.seen → version.closed ≡ is_closed (writers_of knowledge.plan.allow) knowledge.seen
+
+-- ---- bells
+
+-- the seat with a number polls the leaf's task
+pub record IsPolledBy (layout : Layout) (leaf number : ℕ) : Type 0 where
+  pub within : leaf < length layout.leaves
+  pub poller : number ≡ poller_of layout leaf
+
+-- the seat with a number polls the task
+pub record IsTaskOf (layout : Layout) (task number : ℕ) : Type 0 where
+  pub within : task < length layout.pollers
+  pub poller : number ≡ slice_index layout.pollers task
 
 -- ---- turns
 
@@ -109,15 +136,14 @@ module _ {V : Type 0} (plan_of : V → SourcePlan) (history_of : V → List Entr
     pub counted : length states ≡ shape.sources
     pub closed : shape.closed ≡ map (λ state. is_closed (writers_of (plan_of state).allow) []) states
     pub new : All IsNew states
-    pub no_leaves : shape.leaves ≡ []
-    pub no_tasks : shape.tasks ≡ []
+    pub leaves : All (IsLeafOf shape.sources (length shape.tasks)) shape.leaves
+    pub tasks : All (λ poller. poller < shape.seats) shape.tasks
 
   pub record IsMade (shape : FlagShape) (states : List V) (machine : Machine) (seats : List (Seat (Option V) (List Account))) : Type 0 where
-    pub of_words : machine.id.words ≡ shape.sources
-    pub of_plans : machine.plans ≡ map plan_of states
-    pub of_seats : machine.seats ≡ shape.seats
+    pub of_words : machine.id.words ≡ words_of machine.layout
+    pub of_layout : machine.layout ≡ layout_by plan_of shape states
     pub all : length seats ≡ shape.seats
-    pub each : (k : ℕ) (seat : Seat (Option V) (List Account)) → slice_get seats k ≡ Some seat → (seat.table_id ≡ machine.id) × Has seat (opening_account machine.plans k) []
+    pub each : (k : ℕ) (seat : Seat (Option V) (List Account)) → slice_get seats k ≡ Some seat → (seat.table_id ≡ machine.id) × Has seat (opening_account machine.layout k) []
 
   -- a source at the end: each seat has seen a front of its history, and knows all the entries that it made
   pub record IsLast (seats : List (Seat (Option V) (List Account))) (source : ℕ) (plan : SourcePlan) (state : V) : Type 0 where
@@ -126,5 +152,14 @@ module _ {V : Type 0} (plan_of : V → SourcePlan) (history_of : V → List Entr
     pub known : All (λ seat. IsKnown (account seat).number plan (history_of state) (known (account seat) source)) seats
 
   pub record IsEnd (machine : Machine) (seats : List (Seat (Option V) (List Account))) (states : List V) : Type 0 where
-    pub counted : length states ≡ length machine.plans
-    pub each : (source : ℕ) (state : V) → slice_get states source ≡ Some state → IsLast seats source (plan_at machine.plans source) state
+    pub counted : length states ≡ length machine.layout.plans
+    pub each : (source : ℕ) (state : V) → slice_get states source ≡ Some state → IsLast seats source (plan_at machine.layout.plans source) state
+
+  -- no task waits untold, once nobody has anything to ring or to tell: where a leaf's task waits, the leaf's source shows what it showed then, or
+  -- the task is to be polled, or the seat has a token of it
+  pub record IsHeard (layout : Layout) (seats : List (Seat (Option V) (List Account))) (states : List V) (ready : List Bool) : Type 0 where
+    pub all : length ready ≡ length layout.pollers
+    pub each : All OwesNothing seats → (leaf : ℕ) (version : Version) (state : V) → leaf < length layout.leaves → slice_get states (leaf_at layout.leaves leaf).source ≡ Some state →
+        All (λ seat. (watch (account seat) leaf).condition ≡ Waiting version →
+        (version_of (record { plan = plan_at layout.plans (leaf_at layout.leaves leaf).source; history = history_of state }) ≡ version)
+        ⊎ ((slice_index_or ready (leaf_at layout.leaves leaf).task false ≡ true) ⊎ (0 < (hold (account seat) (leaf_at layout.leaves leaf).task).tokens))) seats

@@ -1,71 +1,65 @@
 -- The told rule: what holds of the words, the states at home and what the seats know, between any two steps.
--- Each source has one legal history, and its word says how long that is and whether it is closed. While nobody has the turn, the source's
--- state with that history is at home. While a seat has it, the word is one more, and that seat has seen the whole history. Every seat has seen
--- a front of it, and knows all the entries that it made itself.
-use Rattle.std.specs.Prelude.{◌≡◌, ℕ, ◌+◌, ◌<◌, ◌≤◌, List, [], ◌∷◌, length, slice_index, true, get_or, Option, None, Some}
-use Rattle.sig_flag.specs.Accounts.{plan_at, known}
-use Rattle.sig_flag.specs.Words.{free_word}
+-- Its first half is on turns. The second is on bells, and says that no task that waits is left untold. A leaf whose bell was set has a bell
+-- that is still to be rung, or its task is stirred: it is told, or somebody has yet to tell it. A leaf whose source was looked at after that besides
+-- is up to date, or somebody has yet to ring, or its task is stirred. And both hold for a leaf whose task waits, or the task has a token.
+use Rattle.std.specs.Prelude.{◌≡◌, ◌≢◌, ℕ, ◌<◌, ◌≤◌, List, length, slice_index, true, Option, ◌⊎◌}
+use Rattle.sig_flag.specs.Accounts.{plan_at, watch, hold}
+use Rattle.sig_flag.specs.Layouts.{Layout, leaf_at, bell_of, ready_of, words_of, poller_of}
+use Rattle.sig_flag.specs.Turns.{HasTurns}
 use Rattle.sig_flag.specs.declared.accounts.Account.{Account}
-use Rattle.sig_flag.specs.declared.accounts.Knowledge.{Knowledge}
-use Rattle.sig_hist.specs.Histories.{IsFront, own_entries, is_leave}
-use Rattle.sig_hist.specs.Sources.{IsSource}
+use Rattle.sig_hist.specs.OneThread.{version_of}
+use Rattle.sig_hist.specs.Sources.{is_among}
 use Rattle.sig_hist.specs.declared.edits.Entry.{Entry}
 use Rattle.sig_hist.specs.declared.plans.SourcePlan.{SourcePlan}
+use Rattle.sig_hist.specs.declared.ports.Condition.{Condition}
+use Rattle.sig_hist.specs.declared.ports.Condition.TheVariants.{Idle, Armed, Checked, Waiting}
+use Rattle.sig_hist.specs.declared.ports.Version.{Version}
 use Rattle.atomic_table.specs.Table.{State}
 use lib.ListN.{get_elem?}
 use mathlib.Core.Option as slot
 
--- ---- histories
+-- some account of some view has this to do
+pub record IsOwed (owed : Account → List ℕ) (views : List (List Account)) (what : ℕ) : Type 0 where
+  pub view : ℕ
+  pub at : ℕ
+  pub all : List Account
+  pub account : Account
+  pub is_view : get_elem? views view ≡ slot.some all
+  pub is_account : get_elem? all at ≡ slot.some account
+  pub owes : is_among what (owed account) ≡ true
 
--- nothing comes after a leave
-abbrev pub LeavesLast : List Entry → Type 0
-LeavesLast [] = Unit {0}
-LeavesLast (entry ∷ entries) = (is_leave entry.edit ≡ true → entries ≡ []) × LeavesLast entries
+module _ (layout : Layout) (words : List ℕ) (views : List (List Account)) (history : ℕ → List Entry) where
+  -- the task was told, or somebody has yet to tell it
+  abbrev pub IsStirred : ℕ → Type 0
+  IsStirred task = (slice_index words (ready_of layout task) ≡ 1) ⊎ IsOwed (λ account. account.tells) views task
 
-pub record IsHistory (plan : SourcePlan) (history : List Entry) : Type 0 where
-  pub of_source : IsSource (record { plan = plan; history = history })
-  pub leaves : (writer : ℕ) → LeavesLast (own_entries writer history)
+  -- whoever rings the leaf's bell will find it set, or its task is stirred
+  abbrev pub IsSet : ℕ → Type 0
+  IsSet leaf = (slice_index words (bell_of layout leaf) ≡ 1) ⊎ IsStirred (leaf_at layout.leaves leaf).task
 
--- what the seat with a number knows of a source with this history
-pub record IsKnown (number : ℕ) (plan : SourcePlan) (history : List Entry) (knowledge : Knowledge) : Type 0 where
-  pub of_plan : knowledge.plan ≡ plan
-  pub front : IsFront knowledge.seen history
-  pub seen : length knowledge.seen ≤ knowledge.count
-  pub count : knowledge.count ≤ length history
-  pub own : knowledge.own ≡ own_entries number history
+  -- what the leaf's source shows
+  abbrev pub version_at : ℕ → Version
+  version_at leaf = version_of (record { plan = plan_at layout.plans (leaf_at layout.leaves leaf).source; history = history (leaf_at layout.leaves leaf).source })
 
--- ---- turns
+  -- the leaf's source shows this still, or somebody has yet to ring the leaf's bell, or its task is stirred
+  abbrev pub IsUpTo : ℕ → Version → Type 0
+  IsUpTo leaf version = (version_at leaf ≡ version) ⊎ (IsOwed (λ account. account.rings) views leaf ⊎ IsStirred (leaf_at layout.leaves leaf).task)
 
-module _ {V : Type 0} (plan_of : V → SourcePlan) (history_of : V → List Entry) where
-  -- a state with this plan and history
-  pub record IsState (plan : SourcePlan) (history : List Entry) (state : V) : Type 0 where
-    pub of_plan : plan_of state ≡ plan
-    pub of_history : history_of state ≡ history
+  -- what is certain of a leaf in this condition, whose task has so many tokens
+  abbrev pub IsWatched : ℕ → ℕ → Condition → Type 0
+  IsWatched leaf tokens Idle = Unit {0}
+  IsWatched leaf tokens Armed = IsSet leaf
+  IsWatched leaf tokens (Checked version) = IsSet leaf × IsUpTo leaf version
+  IsWatched leaf tokens (Waiting version) = (IsSet leaf × IsUpTo leaf version) ⊎ (0 < tokens)
 
-  -- by who has the turn: what the word is, and what is at home
-  abbrev pub IsTurn : SourcePlan → List Entry → Option ℕ → ℕ → slot.Option (Option V) → Type 0
-  IsTurn plan history None word home = (word ≡ free_word plan history) × ((state : V) × (home ≡ slot.some (Some state)) × IsState plan history state)
-  IsTurn plan history (Some number) word home = (word ≡ free_word plan history + 1) × (home ≡ slot.none)
+  -- an account's leaves, of which all are idle but those that its seat polls
+  pub record IsWatching (account : Account) : Type 0 where
+    pub watches : length account.watches ≡ length layout.leaves
+    pub holds : length account.holds ≡ length layout.pollers
+    pub each : (leaf : ℕ) → leaf < length layout.leaves → IsWatched leaf (hold account (leaf_at layout.leaves leaf).task).tokens (watch account leaf).condition
+    pub others : (leaf : ℕ) → leaf < length layout.leaves → account.number ≢ poller_of layout leaf → (watch account leaf).condition ≡ Idle
 
--- ---- the rule
-
--- the account of a number, in the view at its place
-pub record IsAccount (plans : List SourcePlan) (seats : ℕ) (history : ℕ → List Entry) (holder : ℕ → Option ℕ) (place : ℕ → ℕ) (view : ℕ) (account : Account) : Type 0 where
-  pub at_place : place account.number ≡ view
-  pub of_seat : account.number < seats
-  pub of_plans : length account.knows ≡ length plans
-  pub knows : (source : ℕ) → source < length plans → IsKnown account.number (plan_at plans source) (history source) (known account source)
-  pub has_turn : (source : ℕ) → account.turn ≡ Some source → (source < length plans) × (holder source ≡ Some account.number) × ((known account source).seen ≡ history source)
-  pub only : (source : ℕ) → source < length plans → holder source ≡ Some account.number → account.turn ≡ Some source
-
-pub record Told {V : Type 0} (plan_of : V → SourcePlan) (history_of : V → List Entry) (plans : List SourcePlan) (seats : ℕ) (s : State (Option V) (List Account)) : Type 0 where
-  -- of each source its history and who has its turn, and of each seat's number the view in which its account is
-  pub history : ℕ → List Entry
-  pub holder : ℕ → Option ℕ
-  pub place : ℕ → ℕ
-  pub wide : length plans ≤ length s.words
-  pub sources : (source : ℕ) → source < length plans → IsHistory (plan_at plans source) (history source)
-  pub turns : (source : ℕ) → source < length plans → IsTurn plan_of history_of (plan_at plans source) (history source) (holder source) (slice_index s.words source) (get_or s.homes source slot.none)
-  pub holders : (source number : ℕ) → source < length plans → holder source ≡ Some number → number < seats
-  pub accounts : (view at : ℕ) (all : List Account) (account : Account) → get_elem? s.views view ≡ slot.some all → get_elem? all at ≡ slot.some account → IsAccount plans seats history holder place view account
-  pub apart : (view one other : ℕ) (all : List Account) (a b : Account) → get_elem? s.views view ≡ slot.some all → get_elem? all one ≡ slot.some a → get_elem? all other ≡ slot.some b → a.number ≡ b.number → one ≡ other
+pub record Told {V : Type 0} (plan_of : V → SourcePlan) (history_of : V → List Entry) (layout : Layout) (s : State (Option V) (List Account)) : Type 0 where
+  pub turns : HasTurns plan_of history_of layout.plans layout.seats s
+  pub wide : words_of layout ≤ length s.words
+  pub watching : (view at : ℕ) (all : List Account) (account : Account) → get_elem? s.views view ≡ slot.some all → get_elem? all at ≡ slot.some account → IsWatching layout s.words s.views turns.history account

@@ -1,4 +1,3 @@
-use crate::shape::LeafPlan;
 use sig_hist::{Condition, Entry, Met, SourcePlan};
 
 /// What the seat of an account knows of one source. No value of it is made; a list stands as an array.
@@ -37,8 +36,6 @@ pub struct Account {
     pub met: [Met; 0],
     /// Of each source what it knows.
     pub knows: [Knowledge; 0],
-    /// The leaves of the machine.
-    pub leaves: [LeafPlan; 0],
     /// Of each leaf how it stands to it.
     pub watches: [Watch; 0],
     /// Of each task how it stands to it.

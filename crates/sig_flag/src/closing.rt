@@ -1,14 +1,23 @@
 //! How a machine ends: its seats are made one, and the states are taken out of the slots.
-ghost use Rattle.std.specs.Prelude.{◌≡◌, ◌<◌, ◌≤◌, ◌++◌, [], length, map, vec_capacity, All};
+ghost use Rattle.std.specs.Prelude.{◌≡◌, ◌+◌, ◌<◌, ◌≤◌, ◌++◌, [], length, map, vec_capacity, All};
 ghost use Rattle.std.specs.Mem.Slots.{slots_items, slots_len, IsFull};
-ghost use Rattle.sig_flag.specs.Closing.{Rests, AreHome, AreTaken, IsShut};
+ghost use Rattle.sig_flag.specs.Closing.{Rests, AreHome, AreTaken, AreReady, IsShut, AreHeard};
+ghost use Rattle.sig_flag.specs.Layouts.{IsLeafOf};
 ghost use Rattle.sig_flag.specs.Machines.{account, HasNoTurn};
+ghost use Rattle.sig_flag.specs.Opening.{layout_of};
 
 use crate::flags::{FlagSeat, FlagSeats, FlagShared, FlagTable};
 use crate::plays::Gather;
 use atomic_table::Closed;
 use sig_hist::Kept;
 use std::alloc::Global;
+
+/// What is reserved for the end: room for the states of all sources, and for whether each task is to be polled.
+#[derive(Drop)]
+pub struct ClosingRoom<V> {
+    pub states: Vec<V>,
+    pub ready: Vec<bool>,
+}
 
 /// Gives a seat the accounts of others.
 fn gather<V: Kept>(shared: &FlagShared<V>, first: &mut FlagSeat<V>, mut seats: FlagSeats<V>)
@@ -30,8 +39,11 @@ pub fn shut<V: Kept>(table: FlagTable<V>, mut seats: FlagSeats<V>) -> Closed<Opt
     requires all { table.shared.key.seats ≤ length seats }
     requires rest { All (Rests table.shared.table_id) seats }
     requires no_turn { All HasNoTurn seats }
-    ensures full { IsFull result.slots }
+    requires leaves { All (IsLeafOf (length table.shared.key.states.value) (length table.shared.key.pollers.value)) table.shared.key.leaves.value }
+    ensures full { IsFull result.slots × IsFull result.words }
+    ensures words { slots_len result.words ≡ table.shared.table_id.words }
     ensures slots { IsShut V.plan V.history (map V.plan table.shared.key.states.value) seats (slots_items result.slots) }
+    ensures heard { AreHeard V.plan V.history (layout_of V.plan table.shared.key) seats (slots_items result.words) (slots_items result.slots) }
 {
     match seats.pop() {
         None => table.close(),
@@ -58,5 +70,24 @@ pub fn take_all<V: Kept>(mut closed: Closed<Option<V>, Global>, mut room: Vec<V>
         }
     }
     closed.free();
+    room
+}
+
+/// Whether each task is to be polled, by the ready words, which begin with the first of these places. It takes no memory.
+pub fn ready_tasks<V: Kept>(
+    closed: &Closed<Option<V>, Global>,
+    first: usize,
+    count: usize,
+    mut room: Vec<bool>,
+) -> Vec<bool>
+    requires full { IsFull closed.now.words }
+    requires words { first + count ≤ slots_len closed.now.words }
+    requires empty { room.items ≡ [] }
+    requires room { count ≤ vec_capacity room }
+    ensures { AreReady (slots_items closed.now.words) first count result.items }
+{
+    'tasks: for task in 0..count {
+        room.push_reserved(closed.word(first + task) == 1);
+    }
     room
 }

@@ -1,19 +1,20 @@
-ghost use Rattle.std.specs.Prelude.{◌≡◌, ◌<◌, length, [], ◌∷◌, None, Some, IfOk};
+ghost use Rattle.std.specs.Prelude.{◌≡◌, ◌<◌, length, [], ◌∷◌, None, Some, All, IfOk};
 ghost use Rattle.sig_flag.specs.Accounts.{known, after_look, after_give};
-ghost use Rattle.sig_flag.specs.Machines.{account, Sits, IsSameSeat, HasNoTurn, HasTurn, Has, IsShown, IsTake, MayGive, IsShape, IsMade, AreBack, IsEnd};
+ghost use Rattle.sig_flag.specs.Layouts.{IsLeafOf};
+ghost use Rattle.sig_flag.specs.Machines.{account, Sits, IsSameSeat, HasNoTurn, HasTurn, Has, IsShown, IsTake, MayGive, IsShape, IsMade, IsHeard, AreBack, IsEnd};
 
 use crate::accounts::Account;
-use crate::closing::{shut, take_all};
+use crate::closing::{ClosingRoom, ready_tasks, shut, take_all};
 use crate::opening::{deal, open};
-use crate::plays::{Give, Look, Take};
+use crate::plays::{Among, Give, Look, Take};
 use crate::rule::{FlagKey, ToldRule};
-use crate::shape::FlagShape;
+use crate::shape::{FlagShape, LeafPlan, LeafPlans};
 use crate::words::{is_held, version_in, word_of};
 use atomic_table::{Seat, Shared, Table};
 use sig_diff::{Items, NoMemory};
 use sig_hist::{Kept, Version};
 use std::alloc::Global;
-use std::marker::Model;
+use std::marker::{Brand, Model};
 
 /// The states of sources.
 pub type States<V> = Items<V>;
@@ -41,28 +42,36 @@ pub enum Taken {
     Held { word: u64 },
 }
 
-/// Sources with states `V` that seats edit in turns. A seat that has a source's turn has its state, and gives both back.
+/// Sources with states `V` that seats edit in turns, and tasks that are told of it. A seat that has a source's turn has its state,
+/// and gives both back.
 #[derive(Drop)]
 pub struct Flags<V: Kept> {
-    table: FlagTable<V>,
-    /// The room for the states at the end.
-    room: Vec<V>,
+    pub(crate) table: FlagTable<V>,
+    pub(crate) leaves: LeafPlans,
+    /// How many tasks there are.
+    pub(crate) tasks: usize,
+    /// The room for what is answered at the end.
+    room: ClosingRoom<V>,
 }
 
 impl<V: Kept> Model for Flags<V> {
-    ghost use Rattle.std.specs.Prelude.{◌≡◌, length, map, vec_capacity};
-    ghost use Rattle.sig_flag.specs.Machines.{Machine, IsLaid};
+    ghost use Rattle.std.specs.Prelude.{◌≡◌, length, vec_capacity};
+    ghost use Rattle.sig_flag.specs.Machines.{Machine, IsLaid, IsRoom};
+    ghost use Rattle.sig_flag.specs.Opening.{layout_of};
 
     ghost Value = { Machine };
 
-    ghost view = { λ flags. record { id = flags.table.shared.table_id; plans = map V.plan flags.table.shared.key.states.value; seats = flags.table.shared.key.seats } };
+    ghost view = { λ flags. record { id = flags.table.shared.table_id; layout = layout_of V.plan flags.table.shared.key } };
 
-    ghost invariant = { λ flags. IsLaid flags.table.shared.table_id (length flags.table.shared.key.states.value) flags.room.items (vec_capacity flags.room) };
+    ghost invariant = { λ flags. IsLaid flags.table.shared.table_id (layout_of V.plan flags.table.shared.key)
+        × (flags.leaves ≡ flags.table.shared.key.leaves.value) × (flags.tasks ≡ length flags.table.shared.key.pollers.value)
+        × IsRoom flags.room.states.items (vec_capacity flags.room.states) (length flags.table.shared.key.states.value)
+        × IsRoom flags.room.ready.items (vec_capacity flags.room.ready) (length flags.table.shared.key.pollers.value) };
 }
 
 impl<V: Kept> Flags<V> {
-    /// A machine of states without entries, and its seats in the order of their numbers, each with no turn. What
-    /// `close` needs is reserved.
+    /// A machine of states without entries, and its seats in the order of their numbers, each with no turn. All bells are 0, and each task
+    /// is to be polled. What `close` needs is reserved.
     pub fn new(
         alloc: Global,
         shape: FlagShape,
@@ -72,27 +81,46 @@ impl<V: Kept> Flags<V> {
         ensures { IfOk result (λ made. IsMade V.plan V.history shape states made.0 made.1) }
     {
         let count = shape.seats;
-        let room = Vec::with_capacity(alloc, states.len())?;
+        let tasks = shape.tasks.len();
+        let room = ClosingRoom {
+            states: Vec::with_capacity(alloc, states.len())?,
+            ready: Vec::with_capacity(alloc, tasks)?,
+        };
+        let leaves = shape.leaves.copy()?;
         let (table, first) = open(alloc, shape, states)?;
         let seats = deal(alloc, &table.shared, first, count)?;
-        Ok((Flags { table, room }, seats))
+        let flags = Flags {
+            table,
+            leaves,
+            tasks,
+            room,
+        };
+        Ok((flags, seats))
+    }
+
+    /// The leaves, in the order of their numbers.
+    pub fn leaves(&self) -> &[LeafPlan]
+        ensures leaves { result.now ≡ self.now.layout.leaves }
+        ensures range { All (IsLeafOf (length self.now.layout.plans) (length self.now.layout.pollers)) self.now.layout.leaves }
+    {
+        self.leaves.as_slice()
     }
 
     /// What the source's word shows: how many entries it has and whether it is closed. No entry is seen by it.
     pub fn look(&self, seat: &mut FlagSeat<V>, source: usize) -> Version
         requires seat { Sits self.now seat.old }
-        requires source { source < length self.now.plans }
+        requires source { source < length self.now.layout.plans }
         ensures seat { IsSameSeat seat.old seat.new }
-        ensures account { Has seat.new (after_look (account seat.old) source result.count) seat.old.me.1 }
+        ensures account { Has seat.new (after_look self.now.layout.leaves (account seat.old) source result) seat.old.me.1 }
         ensures shown { IsShown (known (account seat.old) source) result }
     {
-        version_in(self.table.shared.load::<Look>(seat, source))
+        self.look_among::<Brand>(seat, source)
     }
 
     /// Tries to get the source's turn, and with it the source's state. All of the history is seen then.
     pub fn take(&self, seat: &mut FlagSeat<V>, source: usize) -> Taken
         requires seat { Sits self.now seat.old }
-        requires source { source < length self.now.plans }
+        requires source { source < length self.now.layout.plans }
         requires no_turn { HasNoTurn seat.old }
         ensures seat { IsSameSeat seat.old seat.new }
         ensures taken { IsTake V.plan V.history seat.old seat.new source result }
@@ -132,24 +160,56 @@ impl<V: Kept> Flags<V> {
     /// Gives the turn back, and with it the state in the slot, which is as it was or has one entry more, by this seat.
     pub fn give(&self, seat: &mut FlagSeat<V>, source: usize, count: u32, closed: bool)
         requires seat { Sits self.now seat.old }
-        requires source { source < length self.now.plans }
+        requires source { source < length self.now.layout.plans }
         requires state { (state : V) × HasTurn seat.old source (Some state) × MayGive V.plan V.history (account seat.old) source count closed state }
         ensures seat { IsSameSeat seat.old seat.new }
-        ensures account { (state : V) → HasTurn seat.old source (Some state) → Has seat.new (after_give (account seat.old) source (V.history state)) [] }
+        ensures account { (state : V) → HasTurn seat.old source (Some state) → Has seat.new (after_give self.now.layout.leaves (account seat.old) source (V.history state)) [] }
     {
-        let word = word_of(count, closed);
-        self.table.shared.store::<Give<V>>(seat, source, word);
+        self.give_among::<Brand>(seat, source, count, closed);
     }
 
-    /// The states of all sources, once all seats are back and none has a turn. It takes no memory.
+    /// The states of all sources, and which tasks are to be polled, once all seats are back and none has a turn. It takes no memory.
     pub fn close(self, seats: FlagSeats<V>) -> (States<V>, ReadyList)
         requires { AreBack self seats }
         ensures states { IsEnd V.plan V.history self seats result.0 }
-        ensures ready { result.1 ≡ [] }
+        ensures heard { IsHeard V.plan V.history self.layout seats result.0 result.1 }
     {
-        let Flags { table, room } = self;
-        let ready = Items::new(*room.allocator());
+        let Flags {
+            table,
+            leaves,
+            tasks,
+            room,
+        } = self;
+        let first = table.slot_count() + leaves.len();
+        let ClosingRoom { states, ready } = room;
         let closed = shut(table, seats);
-        (Items::from_vec(take_all(closed, room)), ready)
+        let ready = ready_tasks(&closed, first, tasks, ready);
+        (
+            Items::from_vec(take_all(closed, states)),
+            Items::from_vec(ready),
+        )
+    }
+
+    fn look_among<A: Among>(&self, seat: &mut FlagSeat<V>, source: usize) -> Version
+        requires seat { Sits self.now seat.old }
+        requires source { source < length self.now.layout.plans }
+        requires leaves { self.now.layout.leaves ≡ A.leaves }
+        ensures seat { IsSameSeat seat.old seat.new }
+        ensures account { Has seat.new (after_look self.now.layout.leaves (account seat.old) source result) seat.old.me.1 }
+        ensures shown { IsShown (known (account seat.old) source) result }
+    {
+        version_in(self.table.shared.load::<Look<A>>(seat, source))
+    }
+
+    fn give_among<A: Among>(&self, seat: &mut FlagSeat<V>, source: usize, count: u32, closed: bool)
+        requires seat { Sits self.now seat.old }
+        requires source { source < length self.now.layout.plans }
+        requires state { (state : V) × HasTurn seat.old source (Some state) × MayGive V.plan V.history (account seat.old) source count closed state }
+        requires leaves { self.now.layout.leaves ≡ A.leaves }
+        ensures seat { IsSameSeat seat.old seat.new }
+        ensures account { (state : V) → HasTurn seat.old source (Some state) → Has seat.new (after_give self.now.layout.leaves (account seat.old) source (V.history state)) [] }
+    {
+        let word = word_of(count, closed);
+        self.table.shared.store::<Give<V, A>>(seat, source, word);
     }
 }

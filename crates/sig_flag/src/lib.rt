@@ -3,6 +3,7 @@
 #![tactic(auto)]
 
 mod accounts;
+mod bells;
 mod closing;
 mod flags;
 mod opening;

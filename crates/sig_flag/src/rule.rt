@@ -1,4 +1,5 @@
 use crate::accounts::Account;
+use crate::shape::{LeafPlans, SeatNumbers};
 use atomic_table::TableRule;
 use sig_diff::Items;
 use sig_hist::Kept;
@@ -10,6 +11,9 @@ use std::snapshot::Snapshot;
 pub struct FlagKey<V> {
     /// The states of the sources at the start.
     pub states: Snapshot<Items<V>>,
+    pub leaves: Snapshot<LeafPlans>,
+    /// The seat that polls each task.
+    pub pollers: Snapshot<SeatNumbers>,
     /// How many seats there are.
     pub seats: u32,
 }
@@ -20,11 +24,11 @@ pub struct ToldRule<V> {
 }
 
 impl<V: Kept> TableRule<Option<V>, [Account; 0], FlagKey<V>> for ToldRule<V> {
-    ghost use Rattle.std.specs.Prelude.{map};
     ghost use Rattle.sig_flag.specs.Accounts.{opening_accounts};
+    ghost use Rattle.sig_flag.specs.Opening.{layout_of};
     ghost use Rattle.sig_flag.specs.Told.{Told};
 
-    ghost holds = { λ key. Told V.plan V.history (map V.plan key.states.value) key.seats };
+    ghost holds = { λ key. Told V.plan V.history (layout_of V.plan key) };
 
-    ghost first = { λ key. opening_accounts (map V.plan key.states.value) key.seats };
+    ghost first = { λ key. opening_accounts (layout_of V.plan key) };
 }

@@ -1,8 +1,10 @@
-ghost use Rattle.std.specs.Prelude.{◌≡◌, ◌<◌, ◌≤◌, ◌∷◌, [], length, false, IfOk};
-ghost use Rattle.sig_flag.specs.Machines.{AreBack};
-ghost use Rattle.sig_flag.specs.Trial.{trial_plan, trial_source, IsReady, IsAtWork, IsBack, IsTrial};
+ghost use Rattle.std.specs.Prelude.{◌≡◌, ◌<◌, ◌≤◌, ◌∷◌, [], length, IfOk};
+ghost use Rattle.sig_flag.specs.Machines.{AreBack, IsPolledBy, IsTaskOf};
+ghost use Rattle.sig_flag.specs.Trial.{trial_source, trial_shape, IsReady, IsAtWork, IsBack, IsTrial};
 
-use crate::{ClosedList, FlagSeat, FlagSeats, FlagShape, Flags, LeafPlans, SeatNumbers, Taken};
+use crate::{
+    ClosedList, FlagSeat, FlagSeats, FlagShape, Flags, LeafPlan, LeafPlans, SeatNumbers, Taken,
+};
 use sig_diff::{Content, Items};
 use sig_hist::{Allowance, Allowances, Edit, Kept, SourcePlan, SourceState};
 use std::alloc::Global;
@@ -38,21 +40,26 @@ fn cells(alloc: Global) -> Result<Items<SourceState>, Fail>
     Ok(states)
 }
 
+/// One source with one leaf, whose task the seat 1 polls.
 fn shape(alloc: Global) -> Result<FlagShape, Fail>
-    ensures { IfOk result (λ shape. shape ≡ record { sources = 1; closed = false ∷ []; leaves = []; tasks = []; seats = 2 }) }
+    ensures { IfOk result (λ shape. shape ≡ trial_shape) }
 {
     let mut closed = ClosedList::new(alloc);
     closed.push(false)?;
+    let mut leaves = LeafPlans::new(alloc);
+    leaves.push(LeafPlan { source: 0, task: 0 })?;
+    let mut tasks = SeatNumbers::new(alloc);
+    tasks.push(1)?;
     Ok(FlagShape {
         sources: 1,
         closed,
-        leaves: LeafPlans::new(alloc),
-        tasks: SeatNumbers::new(alloc),
+        leaves,
+        tasks,
         seats: 2,
     })
 }
 
-/// A machine with that cell, and its two seats.
+/// A machine with that cell and that leaf, and its two seats.
 fn start(
     alloc: Global,
 ) -> Result<
@@ -79,7 +86,7 @@ fn begin<R: Abort>(
     seat: &mut FlagSeat<SourceState>,
     caller: u32,
 )
-    requires some_source { 0 < length flags.now.plans }
+    requires some_source { 0 < length flags.now.layout.plans }
     requires ready { IsReady flags.now caller seat.old }
     ensures { IsAtWork flags.now caller seat.new }
 {
@@ -97,7 +104,7 @@ fn find_held<R: Abort>(
     caller: u32,
     wanted: u64,
 )
-    requires some_source { 0 < length flags.now.plans }
+    requires some_source { 0 < length flags.now.layout.plans }
     requires ready { IsReady flags.now caller seat.old }
     ensures { IsReady flags.now caller seat.new }
 {
@@ -114,7 +121,7 @@ fn set(
     caller: u32,
     number: i64,
 ) -> Result<(), Fail>
-    requires some_source { 0 < length flags.now.plans }
+    requires some_source { 0 < length flags.now.layout.plans }
     requires at_work { IsAtWork flags.now caller seat.old }
     ensures { IfOk result (λ _. IsBack flags.now seat.new) }
 {
@@ -139,7 +146,7 @@ fn read<R: Abort>(
     caller: u32,
     wanted: i64,
 )
-    requires some_source { 0 < length flags.now.plans }
+    requires some_source { 0 < length flags.now.layout.plans }
     requires at_work { IsAtWork flags.now caller seat.old }
     ensures { IsBack flags.now seat.new }
 {
@@ -159,12 +166,64 @@ fn find_count<R: Abort>(
     caller: u32,
     wanted: u32,
 )
-    requires some_source { 0 < length flags.now.plans }
+    requires some_source { 0 < length flags.now.layout.plans }
     requires ready { IsReady flags.now caller seat.old }
     ensures { IsReady flags.now caller seat.new }
 {
     let version = flags.look(seat, 0);
     assert!(rt; version.count == wanted && !version.closed);
+}
+
+/// Finds whether the task was told.
+fn find_told<R: Abort>(
+    rt: &R,
+    flags: &Flags<SourceState>,
+    seat: &mut FlagSeat<SourceState>,
+    wanted: bool,
+)
+    requires task { IsTaskOf flags.now.layout 0 1 }
+    requires ready { IsReady flags.now 1 seat.old }
+    ensures { IsReady flags.now 1 seat.new }
+{
+    assert_eq!(rt; flags.collect(seat, 0), wanted);
+}
+
+/// Sets the leaf's bell, looks, and comes to rest at this many entries, or finds more.
+fn rest<R: Abort>(
+    rt: &R,
+    flags: &Flags<SourceState>,
+    seat: &mut FlagSeat<SourceState>,
+    at: u32,
+    wanted: u32,
+)
+    requires some_source { 0 < length flags.now.layout.plans }
+    requires leaf { IsPolledBy flags.now.layout 0 1 }
+    requires ready { IsReady flags.now 1 seat.old }
+    ensures { IsReady flags.now 1 seat.new }
+{
+    flags.arm(seat, 0);
+    flags.look(seat, 0);
+    let version = flags.look_last(seat, 0, at);
+    assert_eq!(rt; version.count, wanted);
+}
+
+/// Rings the leaf's bell, and tells the task if it was set.
+fn ring<R: Abort>(
+    rt: &R,
+    flags: &Flags<SourceState>,
+    seat: &mut FlagSeat<SourceState>,
+    wanted: bool,
+)
+    requires leaf { IsPolledBy flags.now.layout 0 1 }
+    requires task { IsTaskOf flags.now.layout 0 1 }
+    requires back { IsBack flags.now seat.old }
+    ensures { IsBack flags.now seat.new }
+{
+    let was_set = flags.ring(seat, 0);
+    assert_eq!(rt; was_set, wanted);
+    if was_set {
+        flags.tell(seat, 0);
+    }
 }
 
 /// The seats in one list.
@@ -193,10 +252,29 @@ fn two_seats_edit_a_cell_in_turns(rt: HostRuntime) -> Result<(), Fail> {
     read(&rt, &flags, &mut second, 1, 9);
     let seats = together(rt.alloc(), first, second)?;
     let (mut states, ready) = flags.close(seats);
-    assert!(rt; states.len() == 1 && ready.is_empty());
+    assert!(rt; states.len() == 1 && ready.as_slice() == [true].as_slice());
     match states.pop() {
         Some(state) => assert!(rt; state.count() == 1 && is_cell(state.content(), 9)),
         None => panic!(rt; "no state came back"),
     }
+    Ok(())
+}
+
+#[test]
+fn a_task_that_waits_is_told_once(rt: HostRuntime) -> Result<(), Fail> {
+    let (flags, mut first, mut second) = start(rt.alloc())?;
+    find_told(&rt, &flags, &mut second, true);
+    find_told(&rt, &flags, &mut second, false);
+    rest(&rt, &flags, &mut second, 0, 0);
+    begin(&rt, &flags, &mut first, 0);
+    set(&flags, &mut first, 0, 9)?;
+    ring(&rt, &flags, &mut first, true);
+    ring(&rt, &flags, &mut first, false);
+    rest(&rt, &flags, &mut second, 0, 1);
+    find_told(&rt, &flags, &mut second, true);
+    find_told(&rt, &flags, &mut second, false);
+    let seats = together(rt.alloc(), first, second)?;
+    let (_, ready) = flags.close(seats);
+    assert!(rt; ready.as_slice() == [false].as_slice());
     Ok(())
 }

@@ -1,11 +1,12 @@
 -- What a pass knows after a turn.
-use Rattle.std.proofs.Common.{◌≡◌, ◌∙◌, ℕ, zero, suc, ◌<◌, ◌==◌, List, [], ◌∷◌, ◌++◌, length, get_or, set, Bool, true, false, not, None, Result, Ok, Err, IfOk, IfErr, OnOk, OnErr, inl, inr, refl, sym, ap, subst, eq-eqb, arith}
+use Rattle.std.proofs.Common.{◌≡◌, ◌∙◌, ℕ, zero, suc, ◌+◌, ◌<◌, ◌==◌, List, [], ◌∷◌, ◌++◌, length, get_or, set, Bool, true, false, not, None, Result, Ok, Err, IfOk, IfErr, OnOk, OnErr, inl, inr, refl, sym, ap, subst, eq-eqb, ne_eqb, arith}
 use Rattle.std.proofs.lemmas.Bool.{eqb-true, and_parts}
-use Rattle.std.proofs.lemmas.List.{get_or-set_same, get_or-set_other, length-set}
+use Rattle.std.proofs.lemmas.List.{get_or-set_same, get_or-set_other, length-set, length_push}
+use Rattle.std.specs.Result.{is_ok}
 use Rattle.sig_flag.proofs.Gives.{own_leaves}
 use Rattle.sig_flag.specs.Accounts.{no_plan, opening_knowledge, known, after_turn, after_give}
-use Rattle.sig_flag.specs.Machines.{account, IsMet, IsNext, IsSameSeat}
-use Rattle.sig_flag.specs.Told.{IsHistory}
+use Rattle.sig_flag.specs.Machines.{account, IsMet, IsNext, IsSameSeat, OwesNothing}
+use Rattle.sig_flag.specs.Turns.{IsHistory}
 use Rattle.sig_flag.specs.declared.accounts.Account.{Account}
 use Rattle.sig_flag.specs.declared.accounts.Knowledge.{Knowledge}
 use Rattle.sig_hist.proofs.Entries.{own_entries_own}
@@ -19,7 +20,7 @@ use Rattle.sig_hist.specs.declared.plans.EditError.TheVariants.{Spent, NoMemory}
 use Rattle.sig_hist.specs.declared.plans.SourcePlan.{SourcePlan}
 use Rattle.sig_hub.proofs.InTurn.{reads}
 use Rattle.sig_hub.specs.Passes.{Pass, pass_of, plan_in, seen, Writes, IsSamePass, HasMade, HasMadeNone, IsRefused}
-use Rattle.sig_hub.specs.Turns.{PassSeat, its_plan, its_history, HasTaken, MayEnd, HasGiven, IsAfter}
+use Rattle.sig_hub.specs.Turns.{PassSeat, its_plan, its_history, HasTaken, MayEnd, HasGiven, IsAfter, has_come}
 
 -- ---- a source that the pass writes
 
@@ -59,6 +60,27 @@ module _ (number : ℕ) (old mid : PassSeat) (source : ℕ) (state : Source) (is
   number_mid : (account mid).number ≡ number
   number_mid = ap (λ (a : Account). a.number) (reads mid _ _ taken.has).is ∙ sym is_number
 
+  -- the seat has nothing to ring or to tell in its turn
+  pub nothing_mid : OwesNothing old → OwesNothing mid
+  nothing_mid nothing = let is = (reads mid _ _ taken.has).is in record { no_ring = ap (λ (a : Account). a.rings) is ∙ nothing.no_ring; no_tell = ap (λ (a : Account). a.tells) is ∙ nothing.no_tell }
+
+  seen_mid : (known (account mid) source).seen ≡ state.history
+  seen_mid = ap (λ (k : Knowledge). k.seen) known_mid
+
+  none_came : (after : Source) → after ≡ state → false ≡ has_come (account mid) source after
+  none_came after is = sym (ap not (eq-eqb (length after.history) (length (known (account mid) source).seen) (ap (λ (s : Source). length s.history) is ∙ ap length (sym seen_mid))))
+
+  pub one_came : (after : Source) (entry : Entry) → after ≡ entered state entry → true ≡ has_come (account mid) source after
+  one_came after entry is =
+      let longer : length after.history ≡ length state.history + 1 = ap (λ (s : Source). length s.history) is ∙ length_push state.history entry in
+      let same : length (known (account mid) source).seen ≡ length state.history = ap length seen_mid in
+      sym (ap not (ne_eqb (length after.history) (length (known (account mid) source).seen) (λ equal. absurd (omega arith))))
+
+  pub came_any : (edit : Edit) (after : Source) (result : Result Reply EditError) (came : Bool) → came ≡ is_ok result → IfOk result (λ reply. after ≡ entered state (record { caller = number; edit = edit; reply = reply })) → OnErr result (after ≡ state) →
+      came ≡ has_come (account mid) source after
+  came_any edit after (Ok reply) came ok is same = ok ∙ one_came after (record { caller = number; edit = edit; reply = reply }) is
+  came_any edit after (Err error) came ok is same = ok ∙ none_came after same
+
   ends_same : (after : Source) → after ≡ state → MayEnd (account mid) source after
   ends_same after is = record {
     of_plan = ap its_plan is ∙ its.of_plan ∙ sym (ap (λ (k : Knowledge). k.plan) known_mid);
@@ -97,11 +119,11 @@ module _ (number : ℕ) (old mid : PassSeat) (source : ℕ) (state : Source) (is
     first_knows = set (account old).knows source (record { plan = (known (account old) source).plan; seen = state.history; count = length state.history; own = (known (account old) source).own })
 
     last_account : Account
-    last_account = after_give (after_turn (record (account old) { met = taken.met }) source state.history) source after.history
+    last_account = record (after_give [] (after_turn (record (account old) { met = taken.met }) source state.history) source after.history) { rings = []; tells = [] }
 
     is_last : account new ≡ last_account
     unfolding last_account
-    is_last = (reads new _ _ given.has).is ∙ ap (λ (a : Account). after_give a source after.history) (reads mid _ _ taken.has).is
+    is_last = (reads new _ _ given.has).is ∙ ap (λ (a : Account). record (after_give [] a source after.history) { rings = []; tells = [] }) (reads mid _ _ taken.has).is
 
     pub is_after : IsAfter number old new source after.history
     unfolding last_account
@@ -117,6 +139,7 @@ module _ (number : ℕ) (old mid : PassSeat) (source : ℕ) (state : Source) (is
           at_rest = record {
             one_account = now.one;
             no_turn = record { no_turn = ap (λ (a : Account). a.turn) is_last; no_state = now.slots_are };
+            nothing = record { no_ring = ap (λ (a : Account). a.rings) is_last; no_tell = ap (λ (a : Account). a.tells) is_last };
             of_number = is_number ∙ sym (ap (λ (a : Account). a.number) is_last);
           };
           same_number = ap (λ (a : Account). a.number) is_last;

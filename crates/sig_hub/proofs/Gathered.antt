@@ -23,7 +23,7 @@ none_moved all rest before is = record { parts = is; counted = omega arith; seat
 
 seats_more : (passes : List Pass) (seats : List PassSeat) (seat : PassSeat) (number : ℕ) → AreSeatsOf passes seats → IsAtRest seat number → AreSeatsOf (passes ++ pass_of seat ∷ []) (seats ++ seat ∷ [])
 seats_more passes seats seat number are rests =
-    let alone : Rests seat = record { one_account = rests.one_account; no_turn = rests.no_turn; of_number = refl } in
+    let alone : Rests seat = record { one_account = rests.one_account; no_turn = rests.no_turn; nothing = rests.nothing; of_number = refl } in
     record {
       same = rw (map-append, are.same) refl;
       at_rest = All-push Rests seats seat are.at_rest alone;
@@ -78,7 +78,7 @@ module _ (hub now : HubState) (is : hub ≡ now) (back : Returned) (seats given 
         all = end.counted;
         each = λ source state at.
             let last = end.each source state at in
-            let plan = plan_at now.machine.plans source in
+            let plan = plan_at now.machine.layout.plans source in
             let all = All-same (Knew source plan state) (back.left ++ back.pollers) (map pass_of seats) (sym are.same) (All-map (Knew source plan state) pass_of seats last.known) in
             record {
               of_plan = last.of_plan;

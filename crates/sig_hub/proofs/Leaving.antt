@@ -5,7 +5,7 @@ use Rattle.std.proofs.lemmas.List.Folds.{list_any_more, list_any_at}
 use Rattle.std.proofs.lemmas.List.{take_all}
 use Rattle.sig_flag.specs.Accounts.{known}
 use Rattle.sig_flag.specs.Machines.{account}
-use Rattle.sig_flag.specs.Told.{IsHistory}
+use Rattle.sig_flag.specs.Turns.{IsHistory}
 use Rattle.sig_flag.specs.declared.accounts.Knowledge.{Knowledge}
 use Rattle.sig_hist.specs.Histories.{IsFront}
 use Rattle.sig_hist.specs.Sources.{is_among}

@@ -1,8 +1,9 @@
 -- The machine of a hub's sources at its start.
-use Rattle.std.proofs.Common.{◌≡◌, ◌∙◌, ℕ, ◌<◌, List, [], ◌∷◌, length, map, Bool, All, refl, sym, ap, subst, zero-add}
+use Rattle.std.proofs.Common.{◌≡◌, ◌∙◌, ℕ, ◌<◌, List, [], ◌∷◌, length, map, Bool, All, refl, sym, ap, subst, zero-add, arith}
 use Rattle.std.proofs.lemmas.List.{length-map}
 use Rattle.std.proofs.lemmas.List.Elements.{All-map}
-use Rattle.sig_flag.specs.Machines.{Machine, IsMade, IsNew, IsShape}
+use Rattle.sig_flag.specs.Layouts.{Layout, words_of}
+use Rattle.sig_flag.specs.Machines.{Machine, IsMade, IsNew, IsShape, layout_by}
 use Rattle.sig_flag.specs.declared.shape.FlagShape.{FlagShape}
 use Rattle.sig_hist.specs.Histories.{is_closed}
 use Rattle.sig_hist.specs.OneThread.{source_of}
@@ -23,6 +24,12 @@ plans_back (plan ∷ plans) = ap (λ (others : List SourcePlan). plan ∷ others
 abbrev shape_for : List Source → ℕ → FlagShape
 shape_for states seats = record { sources = length states; closed = map has_closed states; leaves = []; tasks = []; seats = seats }
 
+abbrev hub_layout : List SourcePlan → ℕ → Layout
+hub_layout plans seats = record { plans = plans; leaves = []; pollers = []; seats = seats }
+
+without_leaves : (plans : List SourcePlan) (seats : ℕ) → words_of (hub_layout plans seats) ≡ length plans
+without_leaves plans seats = omega arith
+
 module _ (plans : List SourcePlan) (seats : ℕ) (states read : List Source) (shape : FlagShape) (states_are : states ≡ map source_of plans) (read_is : read ≡ states) (shape_is : shape ≡ shape_for read seats) where
   shape_now : shape ≡ shape_for (map source_of plans) seats
   shape_now = shape_is ∙ ap (λ (s : List Source). shape_for s seats) (read_is ∙ states_are)
@@ -35,15 +42,18 @@ module _ (plans : List SourcePlan) (seats : ℕ) (states read : List Source) (sh
         counted = refl;
         closed = closed_at_start plans;
         new = All-map (IsNew its_plan its_history) source_of plans (λ k d at. record { of_plan = sound k d at; no_entry = refl });
-        no_leaves = refl;
-        no_tasks = refl;
+        leaves = λ k d none. absurd (omega arith);
+        tasks = λ k d none. absurd (omega arith);
       }))
+
+  layout_now : (machine : Machine) (all : List PassSeat) → IsMade its_plan its_history shape states machine all → machine.layout ≡ hub_layout plans seats
+  layout_now machine all made = made.of_layout ∙ ap (λ (s : FlagShape). layout_by its_plan s states) shape_now ∙ ap (λ (p : List SourcePlan). hub_layout p seats) (ap (map its_plan) states_are ∙ plans_back plans)
 
   pub seated : (machine : Machine) (all : List PassSeat) → IsMade its_plan its_history shape states machine all → IsSeated plans seats machine all
   seated machine all made = record {
-    of_plans = made.of_plans ∙ ap (map its_plan) states_are ∙ plans_back plans;
-    of_words = made.of_words ∙ ap (λ (s : FlagShape). s.sources) shape_now ∙ length-map plans source_of;
-    of_seats = made.of_seats ∙ ap (λ (s : FlagShape). s.seats) shape_now;
+    of_plans = ap (λ (l : Layout). l.plans) (layout_now machine all made);
+    of_words = made.of_words ∙ ap words_of (layout_now machine all made) ∙ without_leaves plans seats;
+    of_seats = ap (λ (l : Layout). l.seats) (layout_now machine all made);
     counted = made.all ∙ ap (λ (s : FlagShape). s.seats) shape_now;
     new = seats_from machine 0 all (λ k seat at. let new = made.each k seat at in subst (λ (n : ℕ). IsNewSeat machine n seat) (sym (zero-add k)) (record { at_table = new.0; has = new.1 }));
   }

@@ -136,11 +136,11 @@ module _ (hub : HubState) (sound : IsHub hub) (number : ℕ) (seat : PassSeat) (
   pub rests_new : (n : ℕ) → n ≡ number → IsAtRest seat n
   rests_new n same =
       let now = reads seat _ [] is.has in
-      record { one_account = now.one; no_turn = record { no_turn = ap (λ (a : Account). a.turn) now.is; no_state = now.slots_are }; of_number = same ∙ sym (ap (λ (a : Account). a.number) now.is) }
+      record { one_account = now.one; no_turn = record { no_turn = ap (λ (a : Account). a.turn) now.is; no_state = now.slots_are }; nothing = record { no_ring = ap (λ (a : Account). a.rings) now.is; no_tell = ap (λ (a : Account). a.tells) now.is }; of_number = same ∙ sym (ap (λ (a : Account). a.number) now.is) }
 
-  pub leaves_new : (sources : List ℕ) → AreWritten hub.machine.plans number (length hub.machine.plans) sources → AreThoseToLeave (pass_of seat) sources
+  pub leaves_new : (sources : List ℕ) → AreWritten hub.machine.layout.plans number (length hub.machine.layout.plans) sources → AreThoseToLeave (pass_of seat) sources
   leaves_new sources are =
-      let plans : List SourcePlan = hub.machine.plans in
+      let plans : List SourcePlan = hub.machine.layout.plans in
       subst (λ (pass : Pass). AreThoseToLeave pass sources) (sym pass_is) (record {
         within = λ k d at. let below = are.within k d at in omega (arith, sound.words);
         each = λ source. ap (λ (k : Knowledge). is_among number (writers_of k.plan.allow) && not (ends_with_leave k.own)) (known_new plans source) ∙ and_true _ ∙ written_all plans number sources are source;
@@ -181,14 +181,14 @@ started_more hub first before seats others passes after seat pass are is view pu
 
 -- a writer's pass, with the next draft and the next seat
 module _ (hub : HubState) (before seats others : List PassSeat) (passes : List Pass) (drafts rest : List Draft) (draft : Draft) (seat : PassSeat) (sound : IsHub hub) (starting : AreStarting hub 0 before seats passes)
-    (are : AreDrafts hub.machine.plans (length passes) drafts) (next_is : seats ≡ seat ∷ others) (draft_is : drafts ≡ draft ∷ rest) where
-  split : IsDraft hub.machine.plans (length passes) draft × AreDrafts hub.machine.plans (suc (length passes)) rest
-  split = subst (AreDrafts hub.machine.plans (length passes)) draft_is are
+    (are : AreDrafts hub.machine.layout.plans (length passes) drafts) (next_is : seats ≡ seat ∷ others) (draft_is : drafts ≡ draft ∷ rest) where
+  split : IsDraft hub.machine.layout.plans (length passes) draft × AreDrafts hub.machine.layout.plans (suc (length passes)) rest
+  split = subst (AreDrafts hub.machine.layout.plans (length passes)) draft_is are
 
   pub is_writer : IsAtRest seat draft.number × AreThoseToLeave (pass_of seat) draft.sources.items
   is_writer =
       let new : IsNewSeat hub.machine (length passes) seat = subst (λ (n : ℕ). IsNewSeat hub.machine n seat) (zero-add (length passes)) (next_seat hub 0 before seats others passes seat starting next_is) in
       (rests_new hub sound (length passes) seat new draft.number split.0.of_number, leaves_new hub sound (length passes) seat new draft.sources.items split.0.of_sources)
 
-  pub other_drafts : (after : List Pass) → after ≡ passes ++ pass_of seat ∷ [] → AreDrafts hub.machine.plans (length after) rest
-  other_drafts after pushed = subst (λ (n : ℕ). AreDrafts hub.machine.plans n rest) (omega (arith, ap length pushed, length_push passes (pass_of seat))) split.1
+  pub other_drafts : (after : List Pass) → after ≡ passes ++ pass_of seat ∷ [] → AreDrafts hub.machine.layout.plans (length after) rest
+  other_drafts after pushed = subst (λ (n : ℕ). AreDrafts hub.machine.layout.plans n rest) (omega (arith, ap length pushed, length_push passes (pass_of seat))) split.1

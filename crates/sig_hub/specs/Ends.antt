@@ -1,7 +1,7 @@
 -- A hub at its end, with the passes that come back.
 use Rattle.std.specs.Prelude.{◌≡◌, ℕ, ◌+◌, ◌<◌, ◌≤◌, List, length, slice_get, Some, All}
 use Rattle.sig_flag.specs.Accounts.{known, plan_at}
-use Rattle.sig_flag.specs.Told.{IsHistory, IsKnown}
+use Rattle.sig_flag.specs.Turns.{IsHistory, IsKnown}
 use Rattle.sig_hist.specs.Sources.{Source}
 use Rattle.sig_hist.specs.declared.plans.SourcePlan.{SourcePlan}
 use Rattle.sig_hub.specs.Hubs.{HubState}
@@ -28,8 +28,8 @@ pub record IsLast (back : Returned) (source : ℕ) (plan : SourcePlan) (state : 
   pub pollers : All (Knew source plan state) back.pollers
 
 pub record IsFinished (hub : HubState) (back : Returned) (states : List Source) : Type 0 where
-  pub all : length states ≡ length hub.machine.plans
-  pub each : (source : ℕ) (state : Source) → slice_get states source ≡ Some state → IsLast back source (plan_at hub.machine.plans source) state
+  pub all : length states ≡ length hub.machine.layout.plans
+  pub each : (source : ℕ) (state : Source) → slice_get states source ≡ Some state → IsLast back source (plan_at hub.machine.layout.plans source) state
 
 -- why a hub isn't finished: fewer passes were given back than were made, or memory was wanting. All comes back
 abbrev pub IsRefusal : HubState → Returned → FinishError → Type 0

@@ -13,15 +13,15 @@ pub record HubState : Type 0 where
   pub pollers : ℕ
 
 pub record IsHub (hub : HubState) : Type 0 where
-  pub words : hub.machine.id.words ≡ length hub.machine.plans
-  pub seats : hub.machine.seats ≡ hub.writers + hub.pollers
+  pub words : hub.machine.id.words ≡ length hub.machine.layout.plans
+  pub seats : hub.machine.layout.seats ≡ hub.writers + hub.pollers
   pub few : hub.writers + hub.pollers < 2 ^ 32
 
 -- ---- the start
 
 -- a pass at the start, which has seen and made nothing
 abbrev pub new_pass : HubState → ℕ → Pass
-new_pass hub number = record { hub = hub.machine.id; account = opening_account hub.machine.plans number }
+new_pass hub number = record { hub = hub.machine.id; account = opening_account hub.machine.layout number }
 
 -- so many passes, numbered from the first number on
 pub record AreNew (hub : HubState) (first count : ℕ) (passes : List Pass) : Type 0 where
@@ -29,7 +29,7 @@ pub record AreNew (hub : HubState) (first count : ℕ) (passes : List Pass) : Ty
   pub each : (k : ℕ) (pass : Pass) → slice_get passes k ≡ Some pass → pass ≡ new_pass hub (first + k)
 
 pub record IsMade (plan : HubPlan) (hub : HubState) (passes : Passes) : Type 0 where
-  pub of_sources : hub.machine.plans ≡ plan.sources
+  pub of_sources : hub.machine.layout.plans ≡ plan.sources
   pub of_writers : hub.writers ≡ plan.writers
   pub of_pollers : hub.pollers ≡ plan.pollers
   pub writers : AreNew hub 0 plan.writers passes.writers

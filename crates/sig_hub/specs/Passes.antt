@@ -3,8 +3,8 @@ use Rattle.std.specs.Prelude.{◌≡◌, ◌≢◌, ℕ, ◌<◌, List, [], ◌�
 use Rattle.atomic_table.specs.Seated.{TableId}
 use Rattle.atomic_table.specs.declared.shared.Seat.{Seat}
 use Rattle.sig_flag.specs.Accounts.{known}
-use Rattle.sig_flag.specs.Machines.{account, HasNoTurn}
-use Rattle.sig_flag.specs.Told.{IsHistory}
+use Rattle.sig_flag.specs.Machines.{account, HasNoTurn, OwesNothing}
+use Rattle.sig_flag.specs.Turns.{IsHistory}
 use Rattle.sig_flag.specs.declared.accounts.Account.{Account}
 use Rattle.sig_hist.specs.Histories.{IsFront, ends_with_leave}
 use Rattle.sig_hist.specs.Sources.{Source, allowed, is_among, writers_of}
@@ -35,10 +35,16 @@ own pass source = (known pass.account source).own
 
 -- ---- between two calls
 
--- a seat with one account and no turn
+-- the pass has nothing to ring and nothing to tell
+pub record HasTold (pass : Pass) : Type 0 where
+  pub no_ring : pass.account.rings ≡ []
+  pub no_tell : pass.account.tells ≡ []
+
+-- a seat with one account and no turn, and nothing to ring or to tell
 pub record IsAtRest (seat : Seat (Option Source) (List Account)) (number : ℕ) : Type 0 where
   pub one_account : seat.me.0 ≡ account seat ∷ []
   pub no_turn : HasNoTurn seat
+  pub nothing : OwesNothing seat
   pub of_number : number ≡ (account seat).number
 
 -- whether the pass writes the source and hasn't left it

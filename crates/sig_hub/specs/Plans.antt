@@ -1,6 +1,6 @@
 -- When a hub can be made by a plan.
 use Rattle.std.specs.Prelude.{ℕ, ◌+◌, ◌^◌, ◌<◌, length, All}
-use Rattle.sig_flag.specs.declared.shape.LeafPlan.{LeafPlan}
+use Rattle.sig_flag.specs.Layouts.{IsLeafOf}
 use Rattle.sig_hist.specs.Sources.{IsPlan, writers_of}
 use Rattle.sig_hist.specs.declared.plans.SourcePlan.{SourcePlan}
 use Rattle.sig_hub.specs.declared.plans.HubPlan.{HubPlan}
@@ -9,10 +9,6 @@ use Rattle.sig_hub.specs.declared.plans.HubPlan.{HubPlan}
 pub record IsSourceBy (writers : ℕ) (plan : SourcePlan) : Type 0 where
   pub of_plan : IsPlan plan
   pub by : All (λ writer. writer < writers) (writers_of plan.allow)
-
-pub record IsLeafOf (sources tasks : ℕ) (leaf : LeafPlan) : Type 0 where
-  pub of_source : leaf.source < sources
-  pub of_task : leaf.task < tasks
 
 -- numbers that are in range
 pub record HasFairCounts (plan : HubPlan) : Type 0 where

@@ -32,7 +32,7 @@ AreDrafts plans first (draft ∷ drafts) = IsDraft plans first draft × AreDraft
 
 pub record IsNewSeat (machine : Machine) (number : ℕ) (seat : PassSeat) : Type 0 where
   pub at_table : seat.table_id ≡ machine.id
-  pub has : Has seat (opening_account machine.plans number) []
+  pub has : Has seat (opening_account machine.layout number) []
 
 abbrev pub AreNewSeats : Machine → ℕ → List PassSeat → Type 0
 AreNewSeats machine first [] = Unit {0}
@@ -44,8 +44,8 @@ AreNewPasses hub first (pass ∷ passes) = (pass ≡ new_pass hub first) × AreN
 
 -- a machine of these sources, and all its seats
 pub record IsSeated (plans : List SourcePlan) (count : ℕ) (machine : Machine) (seats : List PassSeat) : Type 0 where
-  pub of_plans : machine.plans ≡ plans
+  pub of_plans : machine.layout.plans ≡ plans
   pub of_words : machine.id.words ≡ length plans
-  pub of_seats : machine.seats ≡ count
+  pub of_seats : machine.layout.seats ≡ count
   pub counted : length seats ≡ count
   pub new : AreNewSeats machine 0 seats

@@ -1,9 +1,11 @@
 -- What the seat of a pass goes through in the turn of a source.
-use Rattle.std.specs.Prelude.{◌≡◌, ◌≢◌, ℕ, List, [], ◌∷◌, length, take, Option, ◌⊎◌}
+use Rattle.std.specs.Prelude.{◌≡◌, ◌≢◌, ◌<◌, ◌==◌, ℕ, List, [], ◌∷◌, length, take, drop, Bool, not, Option, ◌⊎◌}
 use Rattle.atomic_table.specs.declared.shared.Seat.{Seat}
-use Rattle.sig_flag.specs.Accounts.{known, after_turn, after_give}
+use Rattle.sig_flag.specs.Accounts.{known, after_turn, after_give, leaves_on}
+use Rattle.sig_flag.specs.Layouts.{Layout, leaf_at}
 use Rattle.sig_flag.specs.Machines.{account, Has, IsMet, IsNext, IsSameSeat}
 use Rattle.sig_flag.specs.declared.accounts.Account.{Account}
+use Rattle.sig_flag.specs.declared.shape.LeafPlan.{LeafPlan}
 use Rattle.sig_hist.specs.Histories.{own_entries}
 use Rattle.sig_hist.specs.Sources.{Source, is_among}
 use Rattle.sig_hist.specs.declared.edits.Entry.{Entry}
@@ -37,10 +39,30 @@ pub record MayEnd (a : Account) (source : ℕ) (state : Source) : Type 0 where
   pub of_plan : state.plan ≡ (known a source).plan
   pub of_history : (state.history ≡ (known a source).seen) ⊎ ((entry : Entry) × IsNext its_plan its_history a.number (known a source).plan (known a source).seen entry state.history)
 
--- the seat gave the turn back with this state
+-- whether the source has an entry more in this state than the seat has seen
+abbrev pub has_come : Account → ℕ → Source → Bool
+has_come a source state = not (length state.history == length (known a source).seen)
+
+-- the seat gave the turn back with this state, and told whom it had to
 pub record HasGiven (old new : PassSeat) (source : ℕ) (state : Source) : Type 0 where
   pub same : IsSameSeat old new
-  pub has : Has new (after_give (account old) source state.history) []
+  pub has : Has new (record (after_give [] (account old) source state.history) { rings = []; tells = [] }) []
+
+-- of the leaves of the source the seat has yet to ring those from a number on
+pub record IsRinging (leaves : List LeafPlan) (source from : ℕ) (old new : PassSeat) : Type 0 where
+  pub same : IsSameSeat old new
+  pub has : Has new (record (account old) { rings = leaves_on source (drop from leaves) from; tells = [] }) old.me.1
+
+-- the seat has rung and told all
+pub record HasRung (old new : PassSeat) : Type 0 where
+  pub same : IsSameSeat old new
+  pub has : Has new (record (account old) { rings = []; tells = [] }) old.me.1
+
+-- the leaf that the seat is to ring, and its task
+pub record IsNextRing (layout : Layout) (leaf task : ℕ) : Type 0 where
+  pub within : leaf < length layout.leaves
+  pub its_task : (leaf_at layout.leaves leaf).task ≡ task
+  pub in_range : task < length layout.pollers
 
 -- what the seat's pass knows after a turn in which the source's history became this
 pub record IsAfter (number : ℕ) (old new : PassSeat) (source : ℕ) (history : List Entry) : Type 0 where

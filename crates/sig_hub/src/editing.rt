@@ -1,6 +1,6 @@
 //! One entry of a writer, in the turn of its source.
 ghost use Rattle.std.specs.Prelude.{◌≡◌, ◌<◌, length, false, IfOk, IfErr};
-ghost use Rattle.sig_flag.specs.Machines.{account, Sits, HasNoTurn};
+ghost use Rattle.sig_flag.specs.Machines.{account, Sits, HasNoTurn, OwesNothing};
 ghost use Rattle.sig_hist.specs.Histories.{is_leave};
 ghost use Rattle.sig_hub.specs.Passes.{pass_of, leave_by, Writes, IsAtRest, IsSamePass, HasMade, HasMadeNone, IsRefused, AreThoseToLeave, HasLeft};
 
@@ -18,8 +18,9 @@ pub fn edit_in_turn<R: Wait>(
     edit: &Edit,
 ) -> Result<Reply, EditError>
     requires seat { Sits flags.now seat.old }
-    requires source { source < length flags.now.plans }
+    requires source { source < length flags.now.layout.plans }
     requires no_turn { HasNoTurn seat.old }
+    requires nothing { OwesNothing seat.old }
     requires number { number ≡ (account seat.old).number }
     requires writes { Writes (pass_of seat.old) source }
     requires no_leave { is_leave edit.now ≡ false }
@@ -30,7 +31,7 @@ pub fn edit_in_turn<R: Wait>(
 {
     let mut state = begin(rt, flags, seat, source);
     let answer = state.edit(number, edit);
-    end(flags, seat, source, state);
+    end(flags, seat, source, state, answer.is_ok());
     answer
 }
 
@@ -43,8 +44,9 @@ pub fn leave_in_turn<R: Wait>(
     source: usize,
 )
     requires seat { Sits flags.now seat.old }
-    requires source { source < length flags.now.plans }
+    requires source { source < length flags.now.layout.plans }
     requires no_turn { HasNoTurn seat.old }
+    requires nothing { OwesNothing seat.old }
     requires number { number ≡ (account seat.old).number }
     requires writes { Writes (pass_of seat.old) source }
     ensures rests { IsAtRest seat.new number }
@@ -53,7 +55,7 @@ pub fn leave_in_turn<R: Wait>(
 {
     let mut state = begin(rt, flags, seat, source);
     state.leave(number);
-    end(flags, seat, source, state);
+    end(flags, seat, source, state, true);
 }
 
 /// Leaves all sources that the seat's pass is in, in their order.
@@ -65,7 +67,7 @@ pub fn leave_all<R: Wait>(
     sources: &[usize],
 )
     requires hub { seat.old.table_id ≡ flags.now.id }
-    requires words { flags.now.id.words ≡ length flags.now.plans }
+    requires words { flags.now.id.words ≡ length flags.now.layout.plans }
     requires rests { IsAtRest seat.old number }
     requires sources { AreThoseToLeave (pass_of seat.old) sources.now }
     ensures rests { IsAtRest seat.new number }

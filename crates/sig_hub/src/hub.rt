@@ -1,7 +1,7 @@
 ghost use Rattle.std.specs.Prelude.{◌≡◌, ◌<◌, [], length, false, IfOk, IfErr};
 ghost use Rattle.sig_hist.specs.Histories.{is_leave};
 ghost use Rattle.sig_hub.specs.Hubs.{IsMade};
-ghost use Rattle.sig_hub.specs.Passes.{Writes, IsSamePass, HasMade, HasMadeNone, IsRefused, HasLeft};
+ghost use Rattle.sig_hub.specs.Passes.{Writes, HasTold, IsSamePass, HasMade, HasMadeNone, IsRefused, HasLeft};
 ghost use Rattle.sig_hub.specs.Plans.{IsSound};
 
 use crate::editing::{edit_in_turn, leave_all};
@@ -69,7 +69,7 @@ impl Hub {
 
     /// Makes an edit of a source, once the pass gets its turn. The entry stands in the source's history after all that the
     /// pass had seen of it, with the reply that is right there. After a refusal nothing was made: the pass has made all the
-    /// edits that it may, or memory was wanting.
+    /// edits that it may, or memory was wanting. Whoever waits for the source is told.
     pub fn edit<R: Wait>(
         &self,
         rt: &R,
@@ -78,21 +78,24 @@ impl Hub {
         edit: &Edit,
     ) -> Result<Reply, EditError>
         requires hub { pass.old.hub ≡ self.now.machine.id }
-        requires source { source < length self.now.machine.plans }
+        requires source { source < length self.now.machine.layout.plans }
         requires writes { Writes pass.old source }
         requires no_leave { is_leave edit.now ≡ false }
         ensures same { IsSamePass pass.old pass.new source }
+        ensures told { HasTold pass.new }
         ensures ok { IfOk result (λ reply. HasMade pass.old pass.new source (record { caller = pass.old.account.number; edit = edit.now; reply = reply })) }
         ensures err { IfErr result (λ error. HasMadeNone pass.old pass.new source × IsRefused pass.old source error) }
     {
+        let number = pass.number;
         let edit = edit.copy()?;
-        edit_in_turn(rt, &self.flags, &mut pass.seat, pass.number, source, &edit)
+        edit_in_turn(rt, &self.flags, &mut pass.seat, number, source, &edit)
     }
 
     /// Leaves each of the pass's sources that it hasn't left, in rising order. It takes no memory.
     pub fn leave<R: Wait>(&self, rt: &R, pass: WriterPass) -> Left
         requires hub { pass.hub ≡ self.now.machine.id }
-        ensures { HasLeft pass result }
+        ensures left { HasLeft pass result }
+        ensures told { HasTold result }
     {
         let WriterPass {
             mut seat,

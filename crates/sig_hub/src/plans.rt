@@ -1,7 +1,8 @@
 ghost use Rattle.std.specs.Prelude.{◌↔◌, ◌^◌, ◌<◌, ◌≤◌, All, IsTrue};
+ghost use Rattle.sig_flag.specs.Layouts.{IsLeafOf};
 ghost use Rattle.sig_hist.specs.Changes.{IsInOrder, size_of};
 ghost use Rattle.sig_hist.specs.Sources.{AreDistinct, IsPlan, room_of, writers_of};
-ghost use Rattle.sig_hub.specs.Plans.{IsSound, HasFairCounts, IsSourceBy, IsLeafOf};
+ghost use Rattle.sig_hub.specs.Plans.{IsSound, HasFairCounts, IsSourceBy};
 
 use crate::starting::may_write;
 use sig_diff::{Content, Items};

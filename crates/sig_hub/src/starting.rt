@@ -120,7 +120,7 @@ impl Hub {
         seats: FlagSeats<SourceState>,
         drafts: Vec<Draft>,
     ) -> Result<Passes, NoMemory>
-        requires drafts { AreDrafts self.now.machine.plans 0 drafts.items }
+        requires drafts { AreDrafts self.now.machine.layout.plans 0 drafts.items }
         requires writers { length drafts.items ≡ self.now.writers }
         requires seats { AreNewSeats self.now.machine 0 seats }
         requires count { length seats ≡ self.now.writers + self.now.pollers }
@@ -140,7 +140,7 @@ impl Hub {
         seats: &mut SeatIter,
         drafts: Vec<Draft>,
     ) -> Result<WriterPasses, NoMemory>
-        requires drafts { AreDrafts self.now.machine.plans 0 drafts.items }
+        requires drafts { AreDrafts self.now.machine.layout.plans 0 drafts.items }
         requires seats { AreNewSeats self.now.machine 0 (into_iter_items seats.old) }
         requires enough { length drafts.items ≤ length (into_iter_items seats.old) }
         ensures passes { IfOk result (AreNew self.now 0 (length drafts.items)) }

@@ -51,7 +51,7 @@ fn plan_with(alloc: Global, source: SourcePlan) -> Result<HubPlan, NoMemory>
 fn hub_of<R: Abort>(rt: &R, alloc: Global, plan: HubPlan) -> Result<(Hub, Passes), NoMemory>
     requires leaves { plan.leaves ≡ [] }
     requires tasks { plan.tasks ≡ [] }
-    ensures sources { IfOk result (λ made. 0 < length made.0.machine.plans) }
+    ensures sources { IfOk result (λ made. 0 < length made.0.machine.layout.plans) }
     ensures writers { IfOk result (λ made. All (IsOf made.0) made.1.writers) }
     ensures pollers { IfOk result (λ made. All (IsOf made.0) made.1.pollers) }
 {
@@ -64,7 +64,7 @@ fn hub_of<R: Abort>(rt: &R, alloc: Global, plan: HubPlan) -> Result<(Hub, Passes
 /// Pushes numbers, and leaves.
 fn push_all<R: Wait>(rt: &R, hub: &Hub, mut pass: WriterPass, pushes: u32) -> Option<Left>
     requires hub { pass.hub ≡ hub.now.machine.id }
-    requires source { 0 < length hub.now.machine.plans }
+    requires source { 0 < length hub.now.machine.layout.plans }
     ensures { IfSome result (λ left. left.hub ≡ hub.now.machine.id) }
 {
     'pushes: for number in 0..pushes {
@@ -85,7 +85,7 @@ fn push_twice<R: Threads + Wait + Sync>(
     first: WriterPass,
     second: WriterPass,
 ) -> (Option<Left>, Option<Left>)
-    requires source { 0 < length hub.now.machine.plans }
+    requires source { 0 < length hub.now.machine.layout.plans }
     requires first { first.hub ≡ hub.now.machine.id }
     requires second { second.hub ≡ hub.now.machine.id }
     ensures first { IfSome result.0 (λ left. left.hub ≡ hub.now.machine.id) }
@@ -94,11 +94,11 @@ fn push_twice<R: Threads + Wait + Sync>(
     thread::join(
         rt,
         move ||
-            requires { (first.hub ≡ hub.now.machine.id) × (0 < length hub.now.machine.plans) }
+            requires { (first.hub ≡ hub.now.machine.id) × (0 < length hub.now.machine.layout.plans) }
             ensures { IfSome result (λ left. left.hub ≡ hub.entry.now.machine.id) }
         { push_all(rt, hub, first, PUSHES) },
         move ||
-            requires { (second.hub ≡ hub.now.machine.id) × (0 < length hub.now.machine.plans) }
+            requires { (second.hub ≡ hub.now.machine.id) × (0 < length hub.now.machine.layout.plans) }
             ensures { IfSome result (λ left. left.hub ≡ hub.entry.now.machine.id) }
         { push_all(rt, hub, second, PUSHES) },
     )
@@ -111,7 +111,7 @@ fn finished<R: Threads + Wait + Sync>(
     hub: Hub,
     passes: Passes,
 ) -> Option<Closed>
-    requires source { 0 < length hub.machine.plans }
+    requires source { 0 < length hub.machine.layout.plans }
     requires writers { All (IsOf hub) passes.writers }
     requires pollers { All (IsOf hub) passes.pollers }
 {
@@ -241,7 +241,7 @@ fn unsound_plans_are_refused(rt: HostRuntime) -> Result<(), Fail> {
 /// What a pass is told that pushes twice where it may push once, before it leaves.
 fn push_too_often<R: Wait>(rt: &R, hub: &Hub, mut pass: WriterPass) -> Option<(EditError, Left)>
     requires hub { pass.hub ≡ hub.now.machine.id }
-    requires source { 0 < length hub.now.machine.plans }
+    requires source { 0 < length hub.now.machine.layout.plans }
     ensures { IfSome result (λ told. told.1.hub ≡ hub.now.machine.id) }
 {
     let edit = Edit::Vector(VecDiff::Push { value: 7 });
@@ -256,7 +256,7 @@ fn push_too_often<R: Wait>(rt: &R, hub: &Hub, mut pass: WriterPass) -> Option<(E
 
 /// The first writer pushes too often, and the second leaves at once.
 fn spent<R: Wait>(rt: &R, alloc: Global, hub: Hub, passes: Passes) -> Option<(EditError, Closed)>
-    requires source { 0 < length hub.machine.plans }
+    requires source { 0 < length hub.machine.layout.plans }
     requires writers { All (IsOf hub) passes.writers }
     requires pollers { All (IsOf hub) passes.pollers }
 {

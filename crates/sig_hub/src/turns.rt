@@ -1,8 +1,9 @@
 //! The turn of a source: a seat waits for it, has the source's state meanwhile, and gives both back.
-ghost use Rattle.std.specs.Prelude.{◌≡◌, ◌<◌, length, None, Some};
-ghost use Rattle.sig_flag.specs.Machines.{account, Sits, IsSameSeat, HasNoTurn, HasTurn};
+ghost use Rattle.std.specs.Prelude.{◌≡◌, ◌<◌, [], length, None, Some};
+ghost use Rattle.sig_flag.specs.Accounts.{after_give, leaves_on, struck};
+ghost use Rattle.sig_flag.specs.Machines.{account, Sits, IsSameSeat, Has, HasNoTurn, HasTurn, OwesNothing};
 ghost use Rattle.sig_hist.specs.Sources.{Source};
-ghost use Rattle.sig_hub.specs.Turns.{HasTaken, MayEnd, HasGiven};
+ghost use Rattle.sig_hub.specs.Turns.{HasTaken, MayEnd, HasGiven, HasRung, IsNextRing, has_come};
 
 use crossbeam_utils::Backoff;
 use sig_flag::{FlagSeat, Flags, Taken};
@@ -16,7 +17,7 @@ pub type HubSeat = FlagSeat<SourceState>;
 /// Tries until the seat has the source's turn.
 fn wait_for_turn<R: Wait>(rt: &R, flags: &HubFlags, seat: &mut HubSeat, source: usize)
     requires seat { Sits flags.now seat.old }
-    requires source { source < length flags.now.plans }
+    requires source { source < length flags.now.layout.plans }
     requires no_turn { HasNoTurn seat.old }
     ensures seat { IsSameSeat seat.old seat.new }
     ensures turn { (state : Source) × HasTaken seat.old seat.new source state (Some state) }
@@ -34,7 +35,7 @@ fn wait_for_turn<R: Wait>(rt: &R, flags: &HubFlags, seat: &mut HubSeat, source: 
 /// Gets the turn of a source, and with it its state.
 pub fn begin<R: Wait>(rt: &R, flags: &HubFlags, seat: &mut HubSeat, source: usize) -> SourceState
     requires seat { Sits flags.now seat.old }
-    requires source { source < length flags.now.plans }
+    requires source { source < length flags.now.layout.plans }
     requires no_turn { HasNoTurn seat.old }
     ensures seat { IsSameSeat seat.old seat.new }
     ensures turn { HasTaken seat.old seat.new source result None }
@@ -43,16 +44,60 @@ pub fn begin<R: Wait>(rt: &R, flags: &HubFlags, seat: &mut HubSeat, source: usiz
     flags.out(seat, source)
 }
 
-/// Gives the turn of a source back, with its state, which is as it was or has one entry more.
-pub fn end(flags: &HubFlags, seat: &mut HubSeat, source: usize, state: SourceState)
+/// Gives the turn of a source back, with its state, which is as it was or has one entry more. In the second case the tasks that
+/// wait for the source are told.
+pub fn end(flags: &HubFlags, seat: &mut HubSeat, source: usize, state: SourceState, came: bool)
     requires seat { Sits flags.now seat.old }
-    requires source { source < length flags.now.plans }
+    requires source { source < length flags.now.layout.plans }
+    requires turn { HasTurn seat.old source None }
+    requires nothing { OwesNothing seat.old }
+    requires state { MayEnd (account seat.old) source state }
+    requires came { came ≡ has_come (account seat.old) source state }
+    ensures { HasGiven seat.old seat.new source state }
+{
+    give(flags, seat, source, state);
+    if came {
+        ring_all(flags, seat, source);
+    }
+}
+
+fn give(flags: &HubFlags, seat: &mut HubSeat, source: usize, state: SourceState)
+    requires seat { Sits flags.now seat.old }
+    requires source { source < length flags.now.layout.plans }
     requires turn { HasTurn seat.old source None }
     requires state { MayEnd (account seat.old) source state }
-    ensures { HasGiven seat.old seat.new source state }
+    ensures seat { IsSameSeat seat.old seat.new }
+    ensures has { Has seat.new (after_give flags.now.layout.leaves (account seat.old) source state.history) [] }
 {
     let count = state.count();
     let closed = state.is_closed();
     flags.put_in(seat, source, state);
     flags.give(seat, source, count, closed);
+}
+
+/// Rings the bell of each leaf of a source, and tells the tasks whose bells were set.
+fn ring_all(flags: &HubFlags, seat: &mut HubSeat, source: usize)
+    requires seat { Sits flags.now seat.old }
+    requires rings { (account seat.old).rings ≡ leaves_on source flags.now.layout.leaves 0 }
+    requires tells { (account seat.old).tells ≡ [] }
+    ensures { HasRung seat.old seat.new }
+{
+    'leaves: for (leaf, plan) in flags.leaves().iter().enumerate() {
+        if plan.source as usize == source {
+            ring_one(flags, seat, leaf, plan.task as usize);
+        }
+    }
+}
+
+/// Rings the bell of a leaf, and tells its task if it was set.
+fn ring_one(flags: &HubFlags, seat: &mut HubSeat, leaf: usize, task: usize)
+    requires seat { Sits flags.now seat.old }
+    requires leaf { IsNextRing flags.now.layout leaf task }
+    requires tells { (account seat.old).tells ≡ [] }
+    ensures seat { IsSameSeat seat.old seat.new }
+    ensures has { Has seat.new (record (account seat.old) { rings = struck leaf (account seat.old).rings; tells = [] }) seat.old.me.1 }
+{
+    if flags.ring(seat, leaf) {
+        flags.tell(seat, task);
+    }
 }

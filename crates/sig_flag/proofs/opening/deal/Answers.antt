@@ -6,7 +6,7 @@ pub split_seat-requires : goal.split_seat-requires
 split_seat-requires g c =
     let more : c.seats._number < c.args.shared.now.key.seats = omega (arith, c.requires.count) in
     let next = next_account _ _ _ _ _ _ c.seats.invariant more in
-    (c.seats.invariant.left.at_table, c.requires.words, peels _ _ _ _ _ _ _ _ (ap (λ (m : _). m.0) next.2))
+    (c.seats.invariant.left.at_table, c.requires.words, peels _ _ _ _ _ _ _ (ap (λ (m : _). m.0) next.2))
 
 pub seats-preserved : goal.seats-preserved
 seats-preserved g c =

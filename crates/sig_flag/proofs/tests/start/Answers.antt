@@ -1,14 +1,14 @@
-use Rattle.std.proofs.Common.{◌≡◌, ◌∙◌, ℕ, ◌<◌, List, [], ◌∷◌, ◌++◌, length, map, slice_get, true, Option, refl, sym, ap, subst, arith}
+use Rattle.std.proofs.Common.{◌≡◌, ◌∙◌, ℕ, ◌<◌, List, [], ◌∷◌, ◌++◌, length, slice_get, true, Option, refl, sym, ap, subst, arith}
 use Rattle.std.proofs.lemmas.List.{length_push}
 use Rattle.atomic_table.specs.declared.shared.Seat.{Seat}
 use Rattle.sig_flag.specs.Accounts.{account_of, known, opening_account}
-use Rattle.sig_flag.specs.Machines.{Machine, Has}
-use Rattle.sig_flag.specs.Trial.{trial_plan, IsReady}
+use Rattle.sig_flag.specs.Layouts.{Layout}
+use Rattle.sig_flag.specs.Machines.{Machine, Has, IsPolledBy, IsTaskOf, layout_by}
+use Rattle.sig_flag.specs.Trial.{trial_plan, trial_shape, trial_source, IsReady}
 use Rattle.sig_flag.specs.declared.accounts.Account.{Account}
 use Rattle.sig_flag.specs.declared.shape.FlagShape.{FlagShape}
 use Rattle.sig_hist.specs.Histories.{ends_with_leave}
 use Rattle.sig_hist.specs.Sources.{Source, is_among, writers_of}
-use Rattle.sig_hist.specs.declared.plans.SourcePlan.{SourcePlan}
 use Rattle.sig_flag.proofs.tests.start.Goals as goal
 
 both_of : {X : Type 0} (xs more less : List X) (first second : X) → xs ≡ more ++ second ∷ [] → more ≡ less ++ first ∷ [] → length xs ≡ 2 → xs ≡ first ∷ second ∷ []
@@ -18,10 +18,13 @@ both_of xs more (x ∷ less) first second xs_are more_are two =
     let longer = length_push (x ∷ less) first in
     absurd (omega (arith, ap length xs_are, ap length more_are))
 
-ready : (machine : Machine) (caller : ℕ) (seat : Seat (Option Source) (List Account)) → machine.plans ≡ trial_plan ∷ [] → is_among caller (writers_of trial_plan.allow) ≡ true →
-    (seat.table_id ≡ machine.id) × Has seat (opening_account machine.plans caller) [] → IsReady machine caller seat
-ready machine caller seat plans writer is =
-    let has = is.1 ∙ ap (λ (all : List SourcePlan). (opening_account all caller ∷ [], [])) plans in
+abbrev trial_layout : Layout
+trial_layout = layout_by (λ (s : Source). s.plan) trial_shape (trial_source ∷ [])
+
+ready : (machine : Machine) (caller : ℕ) (seat : Seat (Option Source) (List Account)) → machine.layout ≡ trial_layout → is_among caller (writers_of trial_plan.allow) ≡ true →
+    (seat.table_id ≡ machine.id) × Has seat (opening_account machine.layout caller) [] → IsReady machine caller seat
+ready machine caller seat layout writer is =
+    let has = is.1 ∙ ap (λ (all : Layout). (opening_account all caller ∷ [], [])) layout in
     record {
       sits = record { at_table = is.0; one_account = ap (λ (m : List Account × List (ℕ × Option Source)). m.0) has ∙ sym (ap (λ (m : List Account × List (ℕ × Option Source)). account_of m.0 ∷ []) has) };
       rests = record { no_turn = ap (λ (m : List Account × List (ℕ × Option Source)). (account_of m.0).turn) has; no_state = ap (λ (m : List Account × List (ℕ × Option Source)). m.1) has };
@@ -34,11 +37,13 @@ pub returns : goal.returns
 returns c =
     let made = c.in_ok-flags.ensures in
     let shape = c.in_ok-shape.ensures in
-    let plans = made.of_plans ∙ ap (map (λ (s : Source). s.plan)) c.in_ok-cells.ensures in
+    let layout : _ ≡ trial_layout = made.of_layout ∙ (λ i. layout_by (λ (s : Source). s.plan) (shape i) (c.in_ok-cells.ensures i)) in
     let seats = both_of _ _ _ c.in-Some-Some.first c.in-Some-Some.second c.in-Some-Some.ensures.last c.in-Some-Some.ensures'.last (made.all ∙ ap (λ (s : FlagShape). s.seats) shape) in
     record {
-      some_source = subst (λ (all : List SourcePlan). 0 < length all) (sym plans) (omega arith);
-      of_seats = made.of_seats ∙ ap (λ (s : FlagShape). s.seats) shape;
-      zero_ready = ready _ 0 _ plans refl (made.each 0 _ (ap (λ (all : List (Seat (Option Source) (List Account))). slice_get all 0) seats));
-      one_ready = ready _ 1 _ plans refl (made.each 1 _ (ap (λ (all : List (Seat (Option Source) (List Account))). slice_get all 1) seats));
+      some_source = subst (λ (l : Layout). 0 < length l.plans) (sym layout) (omega arith);
+      of_seats = ap (λ (l : Layout). l.seats) layout;
+      leaf = subst (λ (l : Layout). IsPolledBy l 0 1) (sym layout) (record { within = omega arith; poller = refl });
+      task = subst (λ (l : Layout). IsTaskOf l 0 1) (sym layout) (record { within = omega arith; poller = refl });
+      zero_ready = ready _ 0 _ layout refl (made.each 0 _ (ap (λ (all : List (Seat (Option Source) (List Account))). slice_get all 0) seats));
+      one_ready = ready _ 1 _ layout refl (made.each 1 _ (ap (λ (all : List (Seat (Option Source) (List Account))). slice_get all 1) seats));
     }

@@ -1,4 +1,4 @@
-use Rattle.sig_hub.proofs.Entered.{in_turn, ends_any, is_after, same_pass, made_any, none_any}
+use Rattle.sig_hub.proofs.Entered.{in_turn, ends_any, is_after, same_pass, made_any, none_any, nothing_mid, came_any}
 use Rattle.sig_hub.proofs.editing.edit_in_turn.Goals as goal
 
 pub edit-answer-requires-clause-is_in : goal.edit-answer-requires-clause-is_in
@@ -24,3 +24,11 @@ pub returns-clause-err : goal.returns-clause-err
 returns-clause-err g c =
     let answer = c.edit-answer.ensures in
     none_any _ _ _ _ _ c.requires.number c.requires.writes c.begin-state.ensures.turn _ _ c.begin-state.ensures.seat c.end.ensures c.edit-answer.result answer.refused answer.err
+
+pub end-requires-clause-nothing : goal.end-requires-clause-nothing
+end-requires-clause-nothing g c = nothing_mid _ _ _ _ _ c.requires.number c.requires.writes c.begin-state.ensures.turn c.requires.nothing
+
+pub end-requires-clause-came : goal.end-requires-clause-came
+end-requires-clause-came g c =
+    let answer = c.edit-answer.ensures in
+    came_any _ _ _ _ _ c.requires.number c.requires.writes c.begin-state.ensures.turn c.args.edit.now _ c.edit-answer.result _ c.is_ok.ensures.value answer.entered answer.err

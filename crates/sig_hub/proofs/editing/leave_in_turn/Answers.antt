@@ -1,5 +1,5 @@
 use Rattle.std.proofs.Common.{refl}
-use Rattle.sig_hub.proofs.Entered.{in_turn, ends_more, is_after, same_pass, made}
+use Rattle.sig_hub.proofs.Entered.{in_turn, ends_more, is_after, same_pass, made, nothing_mid, one_came}
 use Rattle.sig_hub.specs.Passes.{leave_by}
 use Rattle.sig_hub.proofs.editing.leave_in_turn.Goals as goal
 
@@ -17,3 +17,9 @@ returns-clause-same g c = same_pass _ _ _ _ _ c.requires.number c.requires.write
 
 pub returns-clause-left : goal.returns-clause-left
 returns-clause-left g c = made _ _ _ _ _ c.requires.number c.requires.writes c.begin-state.ensures.turn _ _ c.begin-state.ensures.seat c.end.ensures (leave_by c.args.number) c.leave.ensures.entered refl c.leave.ensures.source
+
+pub end-requires-clause-nothing : goal.end-requires-clause-nothing
+end-requires-clause-nothing g c = nothing_mid _ _ _ _ _ c.requires.number c.requires.writes c.begin-state.ensures.turn c.requires.nothing
+
+pub end-requires-clause-came : goal.end-requires-clause-came
+end-requires-clause-came g c = one_came _ _ _ _ _ c.requires.number c.requires.writes c.begin-state.ensures.turn _ (leave_by c.args.number) c.leave.ensures.entered

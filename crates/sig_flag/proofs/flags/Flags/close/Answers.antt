@@ -1,16 +1,30 @@
-use Rattle.std.proofs.Common.{ap, subst, arith}
+use Rattle.std.proofs.Common.{◌≡◌, ◌∙◌, ◌+◌, length, ap, subst, arith}
 use Rattle.std.specs.Mem.Slots.{slots_counts}
-use Rattle.sig_flag.proofs.Closes.{home_of, ends}
-use Rattle.sig_flag.specs.Machines.{Machine, IsEnd}
+use Rattle.sig_flag.proofs.Closes.{home_of, ends, ends_heard}
+use Rattle.sig_flag.proofs.Laid.{leaves_back}
+use Rattle.sig_flag.specs.Machines.{Machine, IsEnd, IsHeard}
+use Rattle.sig_flag.specs.Opening.{layout_of}
 use Rattle.sig_flag.proofs.flags.Flags.close.Goals as goal
 
 pub shut-closed-requires-clause-all : goal.shut-closed-requires-clause-all
-shut-closed-requires-clause-all g c = omega (arith, c.requires.all, ap (λ (m : Machine). m.seats) c.self.view_is)
+shut-closed-requires-clause-all g c = omega (arith, c.requires.all, ap (λ (m : Machine). m.layout.seats) c.self.view_is)
 
 pub take_all-requires-clause-home : goal.take_all-requires-clause-home
-take_all-requires-clause-home g c = home_of _ _ _ c.self.inside.table.shared.key.seats _ _ c.shut-closed.ensures.slots
+take_all-requires-clause-home g c = home_of _ _ (layout_of g.V.Kept.plan c.self.inside.table.shared.key) _ _ c.shut-closed.ensures.slots
 
 pub returns-clause-states : goal.returns-clause-states
 returns-clause-states g c =
     subst (λ (m : Machine). IsEnd g.V.Kept.plan g.V.Kept.history m c.args.seats c.from_vec.result) c.self.view_is
-    (rw c.from_vec.ensures (ends _ _ _ _ _ c.args.seats _ _ _ c.shut-closed.ensures.slots (slots_counts c.shut-closed.result.slots).0 c.take_all.ensures))
+    (rw c.from_vec.ensures (ends _ _ (layout_of g.V.Kept.plan c.self.inside.table.shared.key) _ c.args.seats _ _ _ c.shut-closed.ensures.slots (slots_counts c.shut-closed.result.slots).0 c.take_all.ensures))
+
+pub shut-closed-requires-clause-leaves : goal.shut-closed-requires-clause-leaves
+shut-closed-requires-clause-leaves g c = leaves_back g.V.Kept.plan c.self.inside.table.shared.key c.self.invariant.0.leaves
+
+pub returns-clause-heard : goal.returns-clause-heard
+returns-clause-heard g c =
+    let key = c.self.inside.table.shared.key in
+    let layout = layout_of g.V.Kept.plan key in
+    let first : c.slot_count.result + c.len.result ≡ length layout.plans + length layout.leaves = (λ i. (c.slot_count.ensures ∙ c.self.invariant.0.of_slots) i + (c.len.ensures ∙ ap length c.self.invariant.1) i) in
+    let ready = rw (first, c.self.invariant.2) at c.ready_tasks-ready.ensures in
+    subst (λ (m : Machine). IsHeard g.V.Kept.plan g.V.Kept.history m.layout c.args.seats c.from_vec.result c.from_vec-2.result) c.self.view_is
+    (rw (c.from_vec.ensures, c.from_vec-2.ensures) (ends_heard _ _ layout c.args.seats _ _ _ _ _ c.self.invariant.0.leaves c.shut-closed.ensures.heard c.take_all.ensures ready))
