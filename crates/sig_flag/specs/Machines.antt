@@ -141,6 +141,7 @@ module _ {V : Type 0} (plan_of : V → SourcePlan) (history_of : V → List Entr
 
   pub record IsMade (shape : FlagShape) (states : List V) (machine : Machine) (seats : List (Seat (Option V) (List Account))) : Type 0 where
     pub of_words : machine.id.words ≡ words_of machine.layout
+    pub of_slots : machine.id.slots ≡ length machine.layout.plans
     pub of_layout : machine.layout ≡ layout_by plan_of shape states
     pub all : length seats ≡ shape.seats
     pub each : (k : ℕ) (seat : Seat (Option V) (List Account)) → slice_get seats k ≡ Some seat → (seat.table_id ≡ machine.id) × Has seat (opening_account machine.layout k) []

@@ -18,6 +18,6 @@ layout_of plan_of key = record { plans = map plan_of key.states.value; leaves = 
 pub record IsOpened {V : Type 0} (plan_of : V → SourcePlan) (shape : FlagShape) (states : List V) (key : FlagKey V) (id : TableId) (seat : Seat (Option V) (List Account)) : Type 0 where
   pub of_layout : layout_of plan_of key ≡ layout_by plan_of shape states
   pub of_words : id.words ≡ words_of (layout_of plan_of key)
-  pub of_slots : id.slots ≡ length states
+  pub of_slots : id.slots ≡ length (layout_of plan_of key).plans
   pub few : id.words < 2 ^ 64
   pub first : IsLeft id (layout_of plan_of key) 0 key.seats seat

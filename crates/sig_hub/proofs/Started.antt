@@ -142,7 +142,7 @@ module _ (hub : HubState) (sound : IsHub hub) (number : ℕ) (seat : PassSeat) (
   leaves_new sources are =
       let plans : List SourcePlan = hub.machine.layout.plans in
       subst (λ (pass : Pass). AreThoseToLeave pass sources) (sym pass_is) (record {
-        within = λ k d at. let below = are.within k d at in omega (arith, sound.words);
+        within = λ k d at. let below = are.within k d at in omega (arith, sound.slots);
         each = λ source. ap (λ (k : Knowledge). is_among number (writers_of k.plan.allow) && not (ends_with_leave k.own)) (known_new plans source) ∙ and_true _ ∙ written_all plans number sources are source;
         once = are.once;
       })

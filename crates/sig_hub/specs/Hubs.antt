@@ -1,5 +1,5 @@
 -- A hub, and its passes at the start.
-use Rattle.std.specs.Prelude.{◌≡◌, ℕ, ◌+◌, ◌^◌, ◌<◌, List, length, slice_get, Some}
+use Rattle.std.specs.Prelude.{◌≡◌, ℕ, ◌+◌, ◌^◌, ◌<◌, List, length, map, slice_get, Some}
 use Rattle.sig_flag.specs.Accounts.{opening_account}
 use Rattle.sig_flag.specs.Machines.{Machine}
 use Rattle.sig_hub.specs.Passes.{Pass}
@@ -13,7 +13,7 @@ pub record HubState : Type 0 where
   pub pollers : ℕ
 
 pub record IsHub (hub : HubState) : Type 0 where
-  pub words : hub.machine.id.words ≡ length hub.machine.layout.plans
+  pub slots : hub.machine.id.slots ≡ length hub.machine.layout.plans
   pub seats : hub.machine.layout.seats ≡ hub.writers + hub.pollers
   pub few : hub.writers + hub.pollers < 2 ^ 32
 
@@ -30,6 +30,9 @@ pub record AreNew (hub : HubState) (first count : ℕ) (passes : List Pass) : Ty
 
 pub record IsMade (plan : HubPlan) (hub : HubState) (passes : Passes) : Type 0 where
   pub of_sources : hub.machine.layout.plans ≡ plan.sources
+  pub of_leaves : hub.machine.layout.leaves ≡ plan.leaves
+  -- the pollers' seats come after those of the writers
+  pub of_tasks : hub.machine.layout.pollers ≡ map (λ poller. plan.writers + poller) plan.tasks
   pub of_writers : hub.writers ≡ plan.writers
   pub of_pollers : hub.pollers ≡ plan.pollers
   pub writers : AreNew hub 0 plan.writers passes.writers

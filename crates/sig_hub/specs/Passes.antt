@@ -53,7 +53,7 @@ is_in pass source = is_among pass.account.number (writers_of (plan_in pass sourc
 
 -- the sources that the pass is in, each once
 pub record AreThoseToLeave (pass : Pass) (sources : List ℕ) : Type 0 where
-  pub within : All (λ source. source < pass.hub.words) sources
+  pub within : All (λ source. source < pass.hub.slots) sources
   pub each : (source : ℕ) → is_in pass source ≡ is_among source sources
   pub once : (place : ℕ) → place < length sources → is_among (slice_index sources place) (take place sources) ≡ false
 

@@ -1,6 +1,7 @@
 -- What a hub's passes are made of.
 use Rattle.std.specs.Prelude.{◌≡◌, ℕ, suc, ◌<◌, List, [], ◌∷◌, length, take, slice_index, Bool, false, All}
 use Rattle.sig_flag.specs.Accounts.{opening_account, plan_at}
+use Rattle.sig_flag.specs.Layouts.{Layout}
 use Rattle.sig_flag.specs.Machines.{Machine, Has}
 use Rattle.sig_hist.specs.Histories.{is_closed}
 use Rattle.sig_hist.specs.Sources.{Source, is_among, writers_of}
@@ -42,10 +43,12 @@ abbrev pub AreNewPasses : HubState → ℕ → List Pass → Type 0
 AreNewPasses hub first [] = Unit {0}
 AreNewPasses hub first (pass ∷ passes) = (pass ≡ new_pass hub first) × AreNewPasses hub (suc first) passes
 
--- a machine of these sources, and all its seats
-pub record IsSeated (plans : List SourcePlan) (count : ℕ) (machine : Machine) (seats : List PassSeat) : Type 0 where
-  pub of_plans : machine.layout.plans ≡ plans
-  pub of_words : machine.id.words ≡ length plans
-  pub of_seats : machine.layout.seats ≡ count
-  pub counted : length seats ≡ count
+-- a machine that is made for this, and all its seats
+pub record IsSeated (layout : Layout) (machine : Machine) (seats : List PassSeat) : Type 0 where
+  pub of_plans : machine.layout.plans ≡ layout.plans
+  pub of_leaves : machine.layout.leaves ≡ layout.leaves
+  pub of_pollers : machine.layout.pollers ≡ layout.pollers
+  pub of_seats : machine.layout.seats ≡ layout.seats
+  pub of_slots : machine.id.slots ≡ length machine.layout.plans
+  pub counted : length seats ≡ layout.seats
   pub new : AreNewSeats machine 0 seats

@@ -67,7 +67,7 @@ pub fn leave_all<R: Wait>(
     sources: &[usize],
 )
     requires hub { seat.old.table_id ≡ flags.now.id }
-    requires words { flags.now.id.words ≡ length flags.now.layout.plans }
+    requires slots { flags.now.id.slots ≡ length flags.now.layout.plans }
     requires rests { IsAtRest seat.old number }
     requires sources { AreThoseToLeave (pass_of seat.old) sources.now }
     ensures rests { IsAtRest seat.new number }

@@ -1,4 +1,4 @@
-ghost use Rattle.std.specs.Prelude.{◌≡◌, ◌<◌, [], length, false, IfOk, IfErr};
+ghost use Rattle.std.specs.Prelude.{◌≡◌, ◌<◌, length, false, IfOk, IfErr};
 ghost use Rattle.sig_hist.specs.Histories.{is_leave};
 ghost use Rattle.sig_hub.specs.Hubs.{IsMade};
 ghost use Rattle.sig_hub.specs.Passes.{Writes, HasTold, IsSamePass, HasMade, HasMadeNone, IsRefused, HasLeft};
@@ -7,7 +7,7 @@ ghost use Rattle.sig_hub.specs.Plans.{IsSound};
 use crate::editing::{edit_in_turn, leave_all};
 use crate::passes::{Left, PollPasses, WriterPass, WriterPasses};
 use crate::plans::HubPlan;
-use crate::starting::{drafts_of, flags_of};
+use crate::starting::{drafts_of, flags_of, pollers_of};
 use sig_diff::{NoMemory, TryCopy};
 use sig_flag::Flags;
 use sig_hist::{Edit, EditError, Reply, SourceState};
@@ -42,21 +42,21 @@ pub struct Passes {
 }
 
 impl Hub {
-    /// The hub of a plan, which has no leaves and tasks yet, and its passes.
+    /// The hub of a plan, and its passes.
     pub fn new(alloc: Global, plan: HubPlan) -> Result<(Hub, Passes), NoMemory>
         requires sound { IsSound plan }
-        requires no_leaves { plan.leaves ≡ [] }
-        requires no_tasks { plan.tasks ≡ [] }
         ensures { IfOk result (λ made. IsMade plan made.0 made.1) }
     {
         let HubPlan {
             sources,
+            leaves,
+            tasks,
             pollers,
             writers,
-            ..
         } = plan;
         let drafts = drafts_of(alloc, sources.as_slice(), writers)?;
-        let (flags, seats) = flags_of(alloc, sources, writers + pollers)?;
+        let tasks = pollers_of(alloc, tasks.as_slice(), writers)?;
+        let (flags, seats) = flags_of(alloc, sources, leaves, tasks, writers + pollers)?;
         let hub = Hub {
             alloc,
             flags,

@@ -2,6 +2,7 @@
 ghost use Rattle.std.specs.Prelude.{◌≡◌, ◌==◌, [], ◌+◌, ◌^◌, ◌<◌, ◌≤◌, length, map, All, IfOk, OnOk};
 ghost use Rattle.std.specs.List.{list_any};
 ghost use Rattle.std.specs.Vec.Iter.{into_iter_items};
+ghost use Rattle.sig_flag.specs.Layouts.{IsLeafOf};
 ghost use Rattle.sig_hist.specs.OneThread.{source_of};
 ghost use Rattle.sig_hist.specs.Sources.{IsPlan};
 ghost use Rattle.sig_hub.specs.Hubs.{AreNew};
@@ -11,7 +12,7 @@ use crate::hub::{Hub, Passes};
 use crate::passes::{PollPass, PollPasses, WriterPass, WriterPasses};
 use crate::turns::{HubFlags, HubSeat};
 use sig_diff::{Items, NoMemory};
-use sig_flag::{FlagSeats, FlagShape, Flags, States};
+use sig_flag::{FlagSeats, FlagShape, Flags, LeafPlans, SeatNumbers, States};
 use sig_hist::{Allowance, Kept, Plans, SourcePlan, SourceState};
 use std::alloc::Global;
 use std::vec::IntoIter;
@@ -49,34 +50,56 @@ fn closed_of(alloc: Global, states: &[SourceState]) -> Result<Vec<bool>, NoMemor
     Ok(closed)
 }
 
-fn shape_of(alloc: Global, states: &[SourceState], seats: u32) -> Result<FlagShape, NoMemory>
+fn shape_of(
+    alloc: Global,
+    states: &[SourceState],
+    leaves: LeafPlans,
+    tasks: SeatNumbers,
+    seats: u32,
+) -> Result<FlagShape, NoMemory>
     requires { length states.now < 2 ^ 32 }
-    ensures { IfOk result (λ shape. shape ≡ record { sources = length states.now; closed = map has_closed states.now; leaves = []; tasks = []; seats = seats }) }
+    ensures { IfOk result (λ shape. shape ≡ record { sources = length states.now; closed = map has_closed states.now; leaves = leaves; tasks = tasks; seats = seats }) }
 {
     let closed = closed_of(alloc, states)?;
     Ok(FlagShape {
         sources: states.len() as u32,
         closed: Items::from_vec(closed),
-        leaves: Items::new(alloc),
-        tasks: Items::new(alloc),
+        leaves,
+        tasks,
         seats,
     })
 }
 
-/// The machine of some sources, and all its seats.
+/// The seat that polls each task: the seats of pollers come behind those of the writers.
+pub fn pollers_of(alloc: Global, tasks: &[u32], writers: u32) -> Result<SeatNumbers, NoMemory>
+    requires { All (λ poller. writers + poller < 2 ^ 32) tasks.now }
+    ensures { IfOk result (λ seats. seats ≡ map (λ poller. writers + poller) tasks.now) }
+{
+    let mut seats = Vec::with_capacity(alloc, tasks.len())?;
+    'tasks: for poller in tasks {
+        seats.push(writers + *poller)?;
+    }
+    Ok(Items::from_vec(seats))
+}
+
+/// The machine of some sources, leaves and tasks, and all its seats.
 pub fn flags_of(
     alloc: Global,
     plans: Plans,
+    leaves: LeafPlans,
+    tasks: SeatNumbers,
     seats: u32,
 ) -> Result<(HubFlags, FlagSeats<SourceState>), NoMemory>
     requires plans { All IsPlan plans }
     requires some_source { 0 < length plans }
     requires few { length plans < 2 ^ 32 }
     requires some_seat { 0 < seats }
-    ensures { IfOk result (λ made. IsSeated plans seats made.0 made.1) }
+    requires leaves { All (IsLeafOf (length plans) (length tasks)) leaves }
+    requires tasks { All (λ poller. poller < seats) tasks }
+    ensures { IfOk result (λ made. IsSeated (record { plans = plans; leaves = leaves; pollers = tasks; seats = seats }) made.0 made.1) }
 {
     let states = states_of(alloc, plans)?;
-    let shape = shape_of(alloc, states.as_slice(), seats)?;
+    let shape = shape_of(alloc, states.as_slice(), leaves, tasks, seats)?;
     Flags::new(alloc, shape, states)
 }
 

@@ -2,10 +2,11 @@ ghost use Rattle.std.specs.Prelude.{◌≡◌, ◌<◌, ◌≤◌, [], ◌∷◌
 ghost use Rattle.sig_hub.specs.Ends.{IsOf};
 
 use crate::{
-    Closed, FinishError, Hub, HubPlan, Left, Lefts, Passes, PollPasses, Returned, WriterPass,
+    Closed, FinishError, Hub, HubPlan, Left, Lefts, Passes, PollPasses, PollerOf, Returned,
+    WriterPass,
 };
 use sig_diff::{Content, Items, NoMemory, VecDiff};
-use sig_flag::LeafPlan;
+use sig_flag::{LeafPlan, LeafPlans};
 use sig_hist::{Allowance, Edit, EditError, Kept, Plans, Reply, SourcePlan, SourceState};
 use std::alloc::Global;
 use std::process::Abort;
@@ -32,25 +33,24 @@ fn source(alloc: Global, cap: u32, writers: u32, edits: u32) -> Result<SourcePla
     })
 }
 
-/// Two writers of one source, and one poller.
-fn plan_with(alloc: Global, source: SourcePlan) -> Result<HubPlan, NoMemory>
-    ensures leaves { IfOk result (λ plan. plan.leaves ≡ []) }
-    ensures tasks { IfOk result (λ plan. plan.tasks ≡ []) }
-{
+/// Two writers of one source, and one poller of a task with a leaf on it.
+fn plan_with(alloc: Global, source: SourcePlan) -> Result<HubPlan, NoMemory> {
     let mut sources = Plans::new(alloc);
     sources.push(source)?;
+    let mut leaves = LeafPlans::new(alloc);
+    leaves.push(LeafPlan { source: 0, task: 0 })?;
+    let mut tasks = PollerOf::new(alloc);
+    tasks.push(0)?;
     Ok(HubPlan {
         sources,
-        leaves: Items::new(alloc),
-        tasks: Items::new(alloc),
+        leaves,
+        tasks,
         pollers: 1,
         writers: 2,
     })
 }
 
 fn hub_of<R: Abort>(rt: &R, alloc: Global, plan: HubPlan) -> Result<(Hub, Passes), NoMemory>
-    requires leaves { plan.leaves ≡ [] }
-    requires tasks { plan.tasks ≡ [] }
     ensures sources { IfOk result (λ made. 0 < length made.0.machine.layout.plans) }
     ensures writers { IfOk result (λ made. All (IsOf made.0) made.1.writers) }
     ensures pollers { IfOk result (λ made. All (IsOf made.0) made.1.pollers) }
@@ -216,11 +216,8 @@ fn broken_plan(alloc: Global, rule: u32) -> Result<HubPlan, NoMemory> {
         1 => plan.pollers = 0,
         2 => plan.writers = u32::MAX,
         3 => plan.pollers = u32::MAX - 1,
-        8 => {
-            plan.leaves.push(LeafPlan { source: 1, task: 0 })?;
-            plan.tasks.push(0)?;
-        }
-        9 => plan.leaves.push(LeafPlan { source: 0, task: 0 })?,
+        8 => plan.leaves.push(LeafPlan { source: 1, task: 0 })?,
+        9 => plan.leaves.push(LeafPlan { source: 0, task: 1 })?,
         10 => plan.tasks.push(1)?,
         _ => {}
     }
