@@ -1,6 +1,6 @@
 -- What seats have yet to do.
 use Rattle.std.proofs.Common.{◌≡◌, ◌∙◌, ℕ, zero, suc, ◌+◌, ◌<◌, ◌≢◌, ◌==◌, ◌||◌, List, [], ◌∷◌, ◌++◌, length, set, cond, Bool, true, false, refl, sym, ap, subst, eq-eqb, ne_eqb, arith}
-use Rattle.std.proofs.lemmas.Bool.{eqb-true}
+use Rattle.std.proofs.lemmas.Bool.{eqb-true, or_left, or_right}
 use Rattle.std.proofs.lemmas.List.Folds.{list_any-append}
 use mathlib.Core.Logic.{dite}
 use mathlib.Core.Option as slot
@@ -17,14 +17,6 @@ use Rattle.sig_flag.specs.declared.shape.LeafPlan.{LeafPlan}
 use Rattle.sig_hist.specs.Sources.{is_among}
 
 -- ---- lists of numbers
-
-or_left : (a b : Bool) → a ≡ true → (a || b) ≡ true
-or_left true b is = refl
-or_left false b is = absurd (cc)
-
-or_right : (a b : Bool) → b ≡ true → (a || b) ≡ true
-or_right true b is = refl
-or_right false b is = is
 
 pub among_front : (what : ℕ) (xs ys : List ℕ) → is_among what xs ≡ true → is_among what (xs ++ ys) ≡ true
 among_front what xs ys is = list_any-append (λ (y : ℕ). y == what) xs ys ∙ or_left (is_among what xs) (is_among what ys) is

@@ -61,6 +61,7 @@ pub fn end(flags: &HubFlags, seat: &mut HubSeat, source: usize, state: SourceSta
     }
 }
 
+/// Gives the turn of a source back with its state, and tells nobody yet.
 fn give(flags: &HubFlags, seat: &mut HubSeat, source: usize, state: SourceState)
     requires seat { Sits flags.now seat.old }
     requires source { source < length flags.now.layout.plans }
