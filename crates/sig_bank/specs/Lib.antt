@@ -1,3 +1,3 @@
 pub mod Banks
 pub mod Tables
-pub mod Turning
+pub mod laws

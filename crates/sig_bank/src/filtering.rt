@@ -1,10 +1,10 @@
 ghost use Rattle.std.specs.Prelude.{◌≡◌, ◌++◌, ◌<◌, ◌≤◌, [], length, filter, IfOk, OnOk};
 ghost use Rattle.sig_bank.specs.Banks.{items_next, signals_next};
-ghost use Rattle.sig_bank.specs.Tables.{comes_or_goes, filter_by_signal, has_class, turning};
+ghost use Rattle.sig_bank.specs.Tables.{comes_or_goes, filter_by_signal, has_class, flipping};
 ghost use Rattle.sig_diff.specs.Choosing.{is_let_in};
-ghost use Rattle.sig_diff.specs.Differences.{IsLawful};
+ghost use Rattle.sig_diff.specs.Differences.{IsLawful, applied};
 ghost use Rattle.sig_ops.specs.Tables.{filter_gives};
-ghost use Rattle.sig_ops.specs.Turns.{Turns};
+ghost use Rattle.sig_ops.specs.Leading.{LeadsTo};
 
 use sig_diff::{Diffs, Items, LetIn, NoMemory, Tester, VecDiff, apply, class_of, passing};
 use sig_ops::filtered;
@@ -44,6 +44,7 @@ impl FilterBy {
         items: &Items<i64>,
         signals: &Items<i64>,
     ) -> Result<Items<i64>, NoMemory>
+        requires { length items.now ≤ 65536 }
         ensures view { IfOk result (λ kept. kept ≡ filter (is_let_in signals.now) items.now) }
         ensures state { OnOk result (self.new ≡ record { items = items.now; signals = signals.now }) }
     {
@@ -57,10 +58,12 @@ impl FilterBy {
 
     /// Adds what it gives for a difference of the list: what a filter by the signals' present values does.
     pub fn step_list(&mut self, diff: &VecDiff<i64>, given: &mut Diffs<i64>) -> Result<(), NoMemory>
-        requires { IsLawful diff.now (length self.old.items) }
+        requires lawful { IsLawful diff.now (length self.old.items) }
+        requires short { length self.old.items ≤ 65536 }
+        requires short_after { length (applied self.old.items diff.now) ≤ 65536 }
         ensures given { OnOk result (given.new ≡ given.old ++ filter_gives (is_let_in self.old.signals) self.old.items diff.now) }
         ensures state { OnOk result (self.new ≡ items_next self.old diff.now) }
-        ensures law { Turns (filter (is_let_in self.old.signals) self.old.items) (filter_gives (is_let_in self.old.signals) self.old.items diff.now)
+        ensures law { LeadsTo (filter (is_let_in self.old.signals) self.old.items) (filter_gives (is_let_in self.old.signals) self.old.items diff.now)
             (filter (is_let_in self.old.signals) (items_next self.old diff.now).items) }
     {
         let test = LetIn {
@@ -81,7 +84,7 @@ impl FilterBy {
         requires short { length self.old.items ≤ 65536 }
         ensures given { OnOk result (given.new ≡ given.old ++ filter_by_signal self.old child value) }
         ensures state { OnOk result (self.new ≡ signals_next self.old child value) }
-        ensures law { Turns (filter (is_let_in self.old.signals) self.old.items) (filter_by_signal self.old child value)
+        ensures law { LeadsTo (filter (is_let_in self.old.signals) self.old.items) (filter_by_signal self.old child value)
             (filter (is_let_in (signals_next self.old child value).signals) self.old.items) }
     {
         let was_in = self.signals.as_slice()[child] != 0;
@@ -89,12 +92,12 @@ impl FilterBy {
         if was_in == (value != 0) {
             return Ok(());
         }
-        turn_class(self.signals.as_slice(), child, self.items.as_slice(), given)
+        flip_class(self.signals.as_slice(), child, self.items.as_slice(), given)
     }
 }
 
-/// Adds what is given where the elements of a signal's class turn, each at its place among those that pass now.
-fn turn_class(
+/// Adds what is given where the elements of a signal's class flip, each at its place among those that pass now.
+fn flip_class(
     signals: &[i64],
     child: usize,
     items: &[i64],
@@ -102,14 +105,14 @@ fn turn_class(
 ) -> Result<(), NoMemory>
     requires child { child < length signals.now }
     requires short { length items.now ≤ 65536 }
-    ensures { OnOk result (given.new ≡ given.old ++ turning (is_let_in signals.now) (has_class (length signals.now) child) 0 items.now) }
+    ensures { OnOk result (given.new ≡ given.old ++ flipping (is_let_in signals.now) (has_class (length signals.now) child) 0 items.now) }
 {
     let test = LetIn { signals };
     let mut place = 0;
     'items: for item in items {
         let passes = test.call(*item);
-        let turns = class_of(*item, signals.len()) == child;
-        turn(turns, passes, place, *item, given)?;
+        let flips = class_of(*item, signals.len()) == child;
+        flip(flips, passes, place, *item, given)?;
         if passes {
             place += 1;
         }
@@ -117,17 +120,17 @@ fn turn_class(
     Ok(())
 }
 
-/// Adds what is given for an element at its place, by whether it turns, and whether it passes now.
-fn turn(
-    turns: bool,
+/// Adds what is given for an element at its place, by whether it flips, and whether it passes now.
+fn flip(
+    flips: bool,
     passes: bool,
     place: u32,
     value: i64,
     given: &mut Diffs<i64>,
 ) -> Result<(), NoMemory>
-    ensures { OnOk result (given.new ≡ given.old ++ comes_or_goes turns passes place value) }
+    ensures { OnOk result (given.new ≡ given.old ++ comes_or_goes flips passes place value) }
 {
-    match (turns, passes) {
+    match (flips, passes) {
         (true, true) => given.push(VecDiff::InsertAt {
             index: place,
             value,

@@ -1,13 +1,10 @@
 //! Views that choose by signals: filters and maps whose elements go by the signal of their class, and one signal or list of several.
 #![tactic(auto)]
 
-mod choosing;
 mod filtering;
 mod mapping;
 mod picking;
 mod switching;
-#[cfg(test)]
-mod tests;
 
 pub use filtering::FilterBy;
 pub use mapping::MapBy;

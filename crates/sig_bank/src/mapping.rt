@@ -4,7 +4,7 @@ ghost use Rattle.sig_bank.specs.Tables.{changing, has_class, map_by_signal};
 ghost use Rattle.sig_diff.specs.Choosing.{raised_by};
 ghost use Rattle.sig_diff.specs.Differences.{IsLawful};
 ghost use Rattle.sig_ops.specs.Tables.{if_so, map_gives};
-ghost use Rattle.sig_ops.specs.Turns.{Turns};
+ghost use Rattle.sig_ops.specs.Leading.{LeadsTo};
 
 use sig_diff::{Diffs, Items, Mapper, NoMemory, RaisedBy, VecDiff, apply, class_of, mapped};
 use sig_ops::image;
@@ -60,7 +60,7 @@ impl MapBy {
         requires { IsLawful diff.now (length self.old.items) }
         ensures given { OnOk result (given.new ≡ given.old ++ map_gives (raised_by self.old.signals) diff.now) }
         ensures state { OnOk result (self.new ≡ items_next self.old diff.now) }
-        ensures law { Turns (map (raised_by self.old.signals) self.old.items) (map_gives (raised_by self.old.signals) diff.now)
+        ensures law { LeadsTo (map (raised_by self.old.signals) self.old.items) (map_gives (raised_by self.old.signals) diff.now)
             (map (raised_by self.old.signals) (items_next self.old diff.now).items) }
     {
         let raise = RaisedBy {
@@ -81,7 +81,7 @@ impl MapBy {
         requires short { length self.old.items ≤ 65536 }
         ensures given { OnOk result (given.new ≡ given.old ++ map_by_signal self.old child value) }
         ensures state { OnOk result (self.new ≡ signals_next self.old child value) }
-        ensures law { Turns (map (raised_by self.old.signals) self.old.items) (map_by_signal self.old child value)
+        ensures law { LeadsTo (map (raised_by self.old.signals) self.old.items) (map_by_signal self.old child value)
             (map (raised_by (signals_next self.old child value).signals) self.old.items) }
     {
         let was = self.signals.as_slice()[child];

@@ -3,10 +3,11 @@ ghost use Rattle.sig_bank.specs.Banks.{bank_next, chosen_place, list_at};
 ghost use Rattle.sig_bank.specs.Tables.{pick_gives, picked_gives};
 ghost use Rattle.sig_diff.specs.Choosing.{list_for};
 ghost use Rattle.sig_diff.specs.Differences.{IsLawful};
-ghost use Rattle.sig_ops.specs.Turns.{Turns};
+ghost use Rattle.sig_ops.specs.Leading.{LeadsTo};
 
-use crate::choosing::same_part;
-use sig_diff::{Diffs, Items, Lists, NoMemory, TryCopy, VecDiff, apply, class_of};
+use sig_diff::{
+    Diffs, Items, Lists, NoMemory, TryCopy, VecDiff, apply, chooses_same, class_of, list_for,
+};
 use std::alloc::Global;
 use std::marker::Model;
 
@@ -42,9 +43,9 @@ impl Pick {
         ensures view { IfOk result (λ items. items ≡ list_for bank.now chooser) }
         ensures state { OnOk result (self.new ≡ record { chooser = chooser; parts = bank.now }) }
     {
-        self.lists = copied(bank.alloc(), bank.as_slice())?;
+        self.lists = bank.copy()?.into_vec();
         self.chooser = chooser;
-        list_for(bank.alloc(), bank.as_slice(), chooser)
+        chosen_copy(bank.alloc(), bank.as_slice(), chooser)
     }
 
     /// The place of the chosen list in the bank.
@@ -66,10 +67,10 @@ impl Pick {
         requires { child ≡ 0 }
         ensures given { OnOk result (given.new ≡ given.old ++ pick_gives self.old value) }
         ensures state { OnOk result (self.new ≡ record self.old { chooser = value }) }
-        ensures law { Turns (list_for self.old.parts self.old.chooser) (pick_gives self.old value) (list_for self.old.parts value) }
+        ensures law { LeadsTo (list_for self.old.parts self.old.chooser) (pick_gives self.old value) (list_for self.old.parts value) }
     {
-        if !same_part(self.lists.len(), self.chooser, value) {
-            let values = list_for(given.alloc(), self.lists.as_slice(), value)?;
+        if !chooses_same(self.lists.len(), self.chooser, value) {
+            let values = chosen_copy(given.alloc(), self.lists.as_slice(), value)?;
             given.push(VecDiff::Replace { values })?;
         }
         self.chooser = value;
@@ -87,7 +88,7 @@ impl Pick {
         requires lawful { IsLawful diff.now (length (list_at self.old child)) }
         ensures given { OnOk result (given.new ≡ given.old ++ picked_gives self.old child diff.now) }
         ensures state { OnOk result (self.new ≡ bank_next self.old child diff.now) }
-        ensures law { Turns (list_for self.old.parts self.old.chooser) (picked_gives self.old child diff.now) (list_for (bank_next self.old child diff.now).parts self.old.chooser) }
+        ensures law { LeadsTo (list_for self.old.parts self.old.chooser) (picked_gives self.old child diff.now) (list_for (bank_next self.old child diff.now).parts self.old.chooser) }
     {
         if self.chosen() == child {
             given.push(diff.copy()?)?;
@@ -97,22 +98,9 @@ impl Pick {
 }
 
 /// A copy of the list of the number's class, or the empty list where there is none.
-fn list_for(alloc: Global, lists: &[Items<i64>], number: i64) -> Result<Items<i64>, NoMemory>
+fn chosen_copy(alloc: Global, lists: &[Items<i64>], number: i64) -> Result<Items<i64>, NoMemory>
     ensures { IfOk result (λ list. list ≡ list_for lists.now number) }
 {
-    if lists.is_empty() {
-        Ok(Items::new(alloc))
-    } else {
-        lists[class_of(number, lists.len())].copy()
-    }
-}
-
-fn copied(alloc: Global, lists: &[Items<i64>]) -> Result<Vec<Items<i64>>, NoMemory>
-    ensures { IfOk result (λ copies. copies.items ≡ lists.now) }
-{
-    let mut copies = Vec::new(alloc);
-    'lists: for list in lists {
-        copies.push(list.copy()?)?;
-    }
-    Ok(copies)
+    let list = Vec::from_slice(alloc, list_for(lists, number))?;
+    Ok(Items::from_vec(list))
 }

@@ -3,8 +3,7 @@ ghost use Rattle.sig_bank.specs.Banks.{chosen_place, switch_next};
 ghost use Rattle.sig_bank.specs.Tables.{switch_gives};
 ghost use Rattle.sig_diff.specs.Choosing.{signal_for};
 
-use crate::choosing::same_part;
-use sig_diff::{Items, NoMemory, class_of, signal_for};
+use sig_diff::{Items, NoMemory, chooses_same, class_of, signal_for};
 use std::alloc::Global;
 use std::marker::Model;
 
@@ -74,7 +73,7 @@ impl Switch {
         ensures value { result ≡ switch_gives self.old 0 value }
         ensures state { self.new ≡ switch_next self.old 0 value }
     {
-        let same = same_part(self.signals.len(), self.chooser, value);
+        let same = chooses_same(self.signals.len(), self.chooser, value);
         self.chooser = value;
         if same {
             None

@@ -8,7 +8,7 @@ use Rattle.std.proofs.lemmas.Cmp.{int_cmp_total, on_total, then_total, tied_itse
 use Rattle.std.proofs.lemmas.List.Sorted.{ranks_by, IsPermutation-refl, IsPermutation-sym, IsPermutation-cons, IsPermutation-trans, IsPermutation-insert, IsPermutation-remove, length_permutation, sum_by-IsPermutation}
 use Rattle.std.proofs.lemmas.List.Sums.{sum_by-cons, sum_by-insert, sum_by-le-sum_by, count_by-le-length}
 use Rattle.std.proofs.lemmas.Option.{slice_get_within, get_or_from_slice_get}
-use Rattle.sig_diff.specs.Sorting.{by_key, below, not_above, in_order}
+use Rattle.sig_diff.specs.Sorting.{IsInOrder, by_key, below, not_above, in_order}
 
 -- ---- tests and counts
 
@@ -247,3 +247,8 @@ then_equal Greater p is = cc
 -- numbers that this order finds equal are the same
 pub by_key_antisymmetric : (key : ℤ → ℤ) → IsAntisymmetric (by_key key)
 by_key_antisymmetric key x y is = int_cmp-IsAntisymmetric x y (then_equal (int_cmp (key x) (key y)) (int_cmp x y) is)
+
+-- numbers in the order of their keys are a sorted permutation
+pub in_order_by_key : (key : ℤ → ℤ) (xs ys : List ℤ) → ys ≡ in_order (by_key key) xs → IsInOrder (by_key key) xs ys
+in_order_by_key key xs ys is =
+    rw is (record { same = in_order_permutation (by_key key) xs; sorted = in_order_sorted (by_key_total key) xs })

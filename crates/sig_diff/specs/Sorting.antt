@@ -1,6 +1,7 @@
 -- Lists in an order: where an element stands in one, and a list's elements in order.
-use Rattle.std.specs.Prelude.{ℕ, ℤ, List, [], ◌∷◌, insert}
+use Rattle.std.specs.Prelude.{ℕ, ℤ, List, [], ◌∷◌, insert, IsPermutation}
 use Rattle.std.specs.List.{count_by}
+use Rattle.std.specs.List.Sorted.{IsSorted}
 use Rattle.std.specs.declared.cmp.Ordering.{Ordering}
 use Rattle.std.specs.Ordering.{int_cmp, is_lt, is_le, ordering_then}
 
@@ -21,3 +22,8 @@ module _ {T : Type 0} (order : T → T → Ordering) where
   abbrev pub in_order : List T → List T
   in_order [] = []
   in_order (x ∷ xs) = insert (in_order xs) (not_above x (in_order xs)) x
+
+  -- the second list has the elements of the first, in order
+  pub record IsInOrder (xs ys : List T) : Type 0 where
+    pub same : IsPermutation xs ys
+    pub sorted : IsSorted order ys

@@ -19,3 +19,10 @@ impl<T: TryCopy + Drop> TryCopy for Items<T> {
         Ok(copies)
     }
 }
+
+/// A list of numbers, as a part of a list of lists.
+impl TryCopy for Items<i64> {
+    fn copy(&self) -> Result<Self, NoMemory> {
+        Items::copy(self)
+    }
+}

@@ -15,13 +15,11 @@ mod map_algebra;
 mod map_differences;
 mod orders;
 mod replaying;
-#[cfg(test)]
-mod tests;
 
 pub use algebra::{apply, is_lawful};
 pub use arithmetic::{clamped, class_of};
 pub use boxed::Boxed;
-pub use choosing::{LetIn, RaisedBy, signal_for};
+pub use choosing::{LetIn, RaisedBy, chooses_same, list_for, signal_for};
 pub use contents::{Content, Kind, Lists, Tagged};
 pub use copying::TryCopy;
 pub use differences::{Diffs, VecDiff};

@@ -13,7 +13,7 @@ use Rattle.sig_expr.specs.declared.shown.Shown.TheVariants.{Signal, Vector, Map,
 use Rattle.sig_expr.specs.Leaves.{map_leaves, sig_leaves, vec_leaves, sigs_leaves, vecs_leaves, leaves}
 use Rattle.sig_diff.specs.Contents.{number_in, list_in, entries_in}
 use Rattle.sig_diff.specs.Choosing.{chosen, list_for, is_let_in, raised_by}
-use Rattle.sig_expr.specs.Scratch.{entries_of, value_of, list_of, signals_of, lists_of}
+use Rattle.sig_expr.specs.Evaluation.{entries_of, value_of, list_of, signals_of, lists_of}
 use Rattle.sig_expr.specs.Trees.{MapTree, map_source, mapped_values, SigTree, cell, mapped_signal, deduped, switched, length_of, total_of, at_key, VecTree, vector, mapped, filtered, filtered_by, mapped_by, sorted, joined, flattened, picked, keys_in, values_in, SigTrees, no_signals, more_signals, VecTrees, no_lists, more_lists, ViewTree, signal_view, vector_view, map_view, entries_view, tagged_view}
 
 -- the same is shown, and the same leaves are awaited for it

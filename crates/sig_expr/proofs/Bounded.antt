@@ -9,10 +9,10 @@ use Rattle.sig_diff.specs.Sorting.{by_key}
 use Rattle.sig_diff.specs.declared.contents.Content.{Content}
 use Rattle.sig_diff.proofs.Sorting.{length_in_order}
 use Rattle.sig_expr.specs.Functions.{image, passes}
-use Rattle.sig_expr.specs.Bounds.{map_bound, vec_bound, greatest_bound}
+use Rattle.sig_expr.specs.Bounds.{AreWithinBounds, IsWithinCap, map_bound, vec_bound, greatest_bound}
 use Rattle.sig_diff.specs.Contents.{list_in, entries_in}
 use Rattle.sig_diff.specs.Choosing.{is_let_in, raised_by, list_for}
-use Rattle.sig_expr.specs.Scratch.{entries_of, list_of, signals_of, lists_of}
+use Rattle.sig_expr.specs.Evaluation.{entries_of, list_of, signals_of, lists_of}
 use Rattle.sig_expr.specs.Trees.{MapTree, map_source, mapped_values, VecTree, vector, mapped, filtered, filtered_by, mapped_by, sorted, joined, flattened, picked, keys_in, values_in, VecTrees, no_lists, more_lists}
 use Rattle.sig_diff.proofs.Keeping.{length_values_mapped}
 
@@ -51,3 +51,8 @@ module _ {L : Type 0} (s : L → Content) (cap : L → ℕ) (lists : (l : L) →
     part_within no_lists index = zero-le
     part_within (more_lists e bank) zero = le_trans (list_within e) (le-max_left (vec_bound cap e) (greatest_bound cap bank))
     part_within (more_lists e bank) (suc index) = le_trans (part_within bank index) (le-max_right (vec_bound cap e) (greatest_bound cap bank))
+
+-- where each leaf holds no more than its cap, no list and no map is longer than its bound
+pub within_bounds : {L : Type 0} (cap : L → ℕ) (s : L → Content) → ((leaf : L) → IsWithinCap cap s leaf) → AreWithinBounds cap s
+within_bounds cap s within =
+    record { lists = list_within s cap (λ leaf. (within leaf).list) (λ leaf. (within leaf).entries); maps = map_within s cap (λ leaf. (within leaf).entries) }

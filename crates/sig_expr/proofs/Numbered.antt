@@ -6,7 +6,7 @@ use Rattle.sig_diff.specs.Numbers.{class_of}
 use Rattle.sig_diff.specs.declared.contents.Content.{Content}
 use Rattle.sig_expr.specs.Leaves.{map_leaves, sig_leaves, vec_leaves, sigs_leaves, vecs_leaves, number_sig, number_vec, number_sigs, number_vecs}
 use Rattle.sig_diff.specs.Choosing.{signal_for, list_for}
-use Rattle.sig_expr.specs.Scratch.{value_of, list_of, signals_of, lists_of}
+use Rattle.sig_expr.specs.Evaluation.{value_of, list_of, signals_of, lists_of}
 use Rattle.sig_expr.specs.Shapes.{sig_trees, vec_trees}
 use Rattle.sig_expr.specs.Trees.{MapTree, map_source, mapped_values, SigTree, VecTree}
 

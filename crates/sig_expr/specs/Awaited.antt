@@ -4,7 +4,7 @@ use Rattle.std.specs.List.{flat_map}
 use Rattle.sig_diff.specs.declared.contents.Content.{Content}
 use Rattle.sig_expr.specs.Leaves.{map_leaves}
 use Rattle.sig_diff.specs.Choosing.{chosen}
-use Rattle.sig_expr.specs.Scratch.{value_of}
+use Rattle.sig_expr.specs.Evaluation.{value_of}
 use Rattle.sig_expr.specs.Trees.{SigTree, cell, mapped_signal, deduped, switched, length_of, total_of, at_key, VecTree, vector, mapped, filtered, filtered_by, mapped_by, sorted, joined, flattened, picked, keys_in, values_in, SigTrees, no_signals, more_signals, VecTrees, no_lists, more_lists, ViewTree, signal_view, vector_view, map_view, entries_view, tagged_view}
 
 -- the leaves of all parts of a bank

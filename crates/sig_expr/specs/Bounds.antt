@@ -1,5 +1,8 @@
 -- How long a list or a map can get, where each source has a cap.
-use Rattle.std.specs.Prelude.{ℕ, ◌+◌, ◌*◌, max, List, get_or}
+use Rattle.std.specs.Prelude.{ℕ, ◌+◌, ◌*◌, ◌≤◌, max, List, get_or, length}
+use Rattle.sig_diff.specs.Contents.{list_in, entries_in}
+use Rattle.sig_diff.specs.declared.contents.Content.{Content}
+use Rattle.sig_expr.specs.Evaluation.{entries_of, list_of}
 use Rattle.sig_expr.specs.Trees.{MapTree, map_source, mapped_values, VecTree, vector, mapped, filtered, filtered_by, mapped_by, sorted, joined, flattened, picked, keys_in, values_in, VecTrees, no_lists, more_lists, ViewTree, signal_view, vector_view, map_view, entries_view, tagged_view}
 
 module _ {L : Type 0} (cap : L → ℕ) where
@@ -36,3 +39,16 @@ module _ {L : Type 0} (cap : L → ℕ) where
 -- the cap of a source, and 0 for a source that has none
 abbrev pub cap_of : List ℕ → ℕ → ℕ
 cap_of caps source = get_or caps source 0
+
+-- ---- what is no longer than its bound
+
+module _ {L : Type 0} (cap : L → ℕ) (s : L → Content) where
+  -- what a leaf holds is no longer than its cap
+  pub record IsWithinCap (leaf : L) : Type 0 where
+    pub list : length (list_in (s leaf)) ≤ cap leaf
+    pub entries : length (entries_in (s leaf)) ≤ cap leaf
+
+  -- no list and no map is longer than its bound, whatever the expression
+  pub record AreWithinBounds : Type 0 where
+    pub lists : (e : VecTree L) → length (list_of s e) ≤ vec_bound cap e
+    pub maps : (m : MapTree L) → length (entries_of s m) ≤ map_bound cap m

@@ -1,7 +1,7 @@
 pub mod Functions
 pub mod Trees
 pub mod Leaves
-pub mod Scratch
+pub mod Evaluation
 pub mod Awaited
 pub mod Bounds
 pub mod Shapes

@@ -5,7 +5,7 @@ use Rattle.sig_diff.specs.declared.contents.Content.TheVariants.{Cell}
 use Rattle.sig_expr.specs.declared.shown.Shown.{Shown}
 use Rattle.sig_expr.specs.declared.shown.Shown.TheVariants.{Signal, Vector, Map, Pairs}
 use Rattle.sig_expr.specs.Awaited.{Agree, awaits}
-use Rattle.sig_expr.specs.Scratch.{value_of, list_of, entries_of}
+use Rattle.sig_expr.specs.Evaluation.{value_of, list_of, entries_of}
 use Rattle.sig_expr.specs.Trees.{ViewTree, signal_view, vector_view, map_view, entries_view, tagged_view}
 
 -- what the view shows, without tags

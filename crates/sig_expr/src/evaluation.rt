@@ -1,10 +1,11 @@
-ghost use Rattle.std.specs.Prelude.{◌≡◌, ◌≤◌, ◌+◌, ◌++◌, pos, length, map, filter, IfOk, OnOk};
+ghost use Rattle.std.specs.Prelude.{◌≡◌, ◌≤◌, ◌+◌, ℕ, ◌++◌, pos, length, map, filter, IfOk, OnOk};
 ghost use Rattle.std.specs.List.{flat_map};
 ghost use Rattle.sig_diff.specs.Numbers.{clamped, total};
+ghost use Rattle.sig_expr.specs.Bounds.{AreWithinBounds, IsWithinCap};
 ghost use Rattle.sig_expr.specs.Leaves.{sig_leaves, vec_leaves, sigs_leaves, vecs_leaves, leaves, number_map, number_sig, number_vec, number_sigs, number_vecs, numbered};
 ghost use Rattle.sig_diff.specs.Contents.{number_in, list_in, entries_in};
 ghost use Rattle.sig_diff.specs.Choosing.{signal_for, list_for, is_let_in, raised_by};
-ghost use Rattle.sig_expr.specs.Scratch.{entries_of, value_of, list_of, signals_of, lists_of};
+ghost use Rattle.sig_expr.specs.Evaluation.{entries_of, value_of, list_of, signals_of, lists_of};
 ghost use Rattle.sig_expr.specs.Shapes.{map_tree, sig_tree, vec_tree, sig_trees, vec_trees, view_tree};
 ghost use Rattle.sig_expr.specs.Shows.{content_of, shows, DependsOnAwaited};
 
@@ -18,12 +19,15 @@ use std::alloc::Global;
 pub type Contents = Items<Content>;
 
 /// What the view shows where each leaf has its content, whole and without tags. A content of another kind than its
-/// leaf's counts as 0, or as empty.
-#[tactic(auto, using(crate::proofs::Awaiting::depends_on_awaited))]
+/// leaf's counts as 0, or as empty. No list and no map in it is longer than its bound.
+///
+/// The sum of a filter that lets numbers from 3 on through shows 12 of the contents [5, 1, 7].
+#[tactic(auto, using(crate::proofs::Awaiting::depends_on_awaited, crate::proofs::Bounded::within_bounds))]
 pub fn eval_view(alloc: Global, view: &View, contents: &Contents) -> Result<Shown, NoMemory>
     requires { length (leaves (view_tree view.now)) ≡ length contents.now }
     ensures shown { IfOk result (λ shown. shown ≡ shows (numbered (view_tree view.now)) (content_of contents.now)) }
     ensures awaited { DependsOnAwaited (numbered (view_tree view.now)) (content_of contents.now) }
+    ensures bounds { (cap : ℕ → ℕ) → ((leaf : ℕ) → IsWithinCap cap (content_of contents.now) leaf) → AreWithinBounds cap (content_of contents.now) }
 {
     let contents = contents.as_slice();
     Ok(match view {

@@ -9,8 +9,6 @@ mod functions;
 mod leaf_counts;
 mod leaf_lists;
 mod shown;
-#[cfg(test)]
-mod tests;
 
 pub use bounds::{Caps, bound};
 pub use evaluation::{Contents, eval_view};

@@ -20,7 +20,7 @@ use Rattle.sig_flag.specs.Told.{IsOwed, IsStirred, IsWatched, IsWatching, versio
 use Rattle.sig_flag.specs.Turns.{IsTurn, IsState, IsAccount}
 use Rattle.sig_flag.specs.declared.accounts.Account.{Account}
 use Rattle.sig_hist.specs.declared.edits.Entry.{Entry}
-use Rattle.sig_hist.specs.OneThread.{version_of}
+use Rattle.sig_hist.specs.Plain.{version_of}
 use Rattle.sig_hist.specs.Sources.{is_among}
 use Rattle.sig_hist.specs.declared.plans.SourcePlan.{SourcePlan}
 use Rattle.sig_hist.specs.declared.ports.Condition.{Condition}

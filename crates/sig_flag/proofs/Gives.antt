@@ -22,7 +22,7 @@ use Rattle.sig_flag.specs.declared.accounts.Account.{Account}
 use Rattle.sig_flag.specs.declared.shape.LeafPlan.{LeafPlan}
 use Rattle.sig_hist.proofs.Entries.{own_entries_own, own_entries_other}
 use Rattle.sig_hist.specs.Histories.{IsFront, own_entries, ends_with_leave, has_left, is_leave}
-use Rattle.sig_hist.specs.OneThread.{version_of}
+use Rattle.sig_hist.specs.Plain.{version_of}
 use Rattle.sig_hist.specs.Ports.{put}
 use Rattle.sig_hist.specs.Sources.{is_among}
 use Rattle.sig_hist.specs.declared.edits.Entry.{Entry}

@@ -20,7 +20,7 @@ use Rattle.sig_flag.specs.declared.accounts.Account.{Account}
 use Rattle.sig_flag.specs.declared.accounts.Knowledge.{Knowledge}
 use Rattle.sig_flag.specs.declared.shape.LeafPlan.{LeafPlan}
 use Rattle.sig_hist.specs.Histories.{is_closed}
-use Rattle.sig_hist.specs.OneThread.{version_of}
+use Rattle.sig_hist.specs.Plain.{version_of}
 use Rattle.sig_hist.specs.Ports.{is_news, put}
 use Rattle.sig_hist.specs.Sources.{writers_of}
 use Rattle.sig_hist.specs.declared.edits.Entry.{Entry}

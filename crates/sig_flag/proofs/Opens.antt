@@ -19,6 +19,7 @@ use Rattle.sig_flag.specs.declared.accounts.Account.{Account}
 use Rattle.sig_flag.specs.declared.accounts.Watch.{Watch}
 use Rattle.sig_flag.specs.declared.shape.FlagShape.{FlagShape}
 use Rattle.sig_flag.specs.declared.shape.LeafPlan.{LeafPlan}
+use Rattle.sig_hist.proofs.Staying.{no_leaves}
 use Rattle.sig_hist.specs.Histories.{is_closed}
 use Rattle.sig_hist.specs.Sources.{writers_of}
 use Rattle.sig_hist.specs.declared.edits.Entry.{Entry}
@@ -80,7 +81,7 @@ module _ {V : Type 0} (plan_of : V → SourcePlan) (history_of : V → List Entr
 
   opens_new : (state : V) → IsNew plan_of history_of state → Opens (plan_of state) (word_of 0 (starts_closed state)) (slot.some (Some state))
   opens_new state new = record {
-    history = record { of_source = record { plan = new.of_plan; within_cap = new.of_plan.within_cap; legal = tt; by_writers = refl; room = omega arith }; leaves = λ writer. tt };
+    history = record { of_source = record { plan = new.of_plan; within_cap = new.of_plan.within_cap; legal = tt; by_writers = refl; room = omega arith; allowances = λ caller. omega arith; leaves_last = no_leaves }; leaves = λ writer. tt };
     turn = (refl, (state, refl, record { of_plan = refl; of_history = new.no_entry }));
   }
 

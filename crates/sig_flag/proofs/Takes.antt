@@ -19,7 +19,7 @@ use Rattle.sig_flag.specs.Words.{free_word}
 use Rattle.sig_flag.specs.declared.accounts.Account.{Account}
 use Rattle.sig_flag.specs.declared.accounts.Knowledge.{Knowledge}
 use Rattle.sig_hist.specs.Histories.{IsFront, own_entries, is_closed}
-use Rattle.sig_hist.specs.OneThread.{version_of}
+use Rattle.sig_hist.specs.Plain.{version_of}
 use Rattle.sig_hist.specs.Ports.{put}
 use Rattle.sig_hist.specs.Sources.{writers_of}
 use Rattle.sig_hist.specs.declared.edits.Entry.{Entry}

@@ -6,7 +6,7 @@ use Rattle.sig_flag.specs.Accounts.{plan_at, watch, hold}
 use Rattle.sig_flag.specs.Layouts.{Layout, leaf_at, ready_of}
 use Rattle.sig_flag.specs.Machines.{account, Has, OwesNothing, IsLast}
 use Rattle.sig_flag.specs.declared.accounts.Account.{Account}
-use Rattle.sig_hist.specs.OneThread.{version_of}
+use Rattle.sig_hist.specs.Plain.{version_of}
 use Rattle.sig_hist.specs.declared.edits.Entry.{Entry}
 use Rattle.sig_hist.specs.declared.plans.SourcePlan.{SourcePlan}
 use Rattle.sig_hist.specs.declared.ports.Condition.TheVariants.{Waiting}

@@ -5,6 +5,5 @@ pub mod Machines
 pub mod Opening
 pub mod Plays
 pub mod Told
-pub mod Trial
 pub mod Turns
 pub mod Words

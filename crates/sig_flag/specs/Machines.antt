@@ -12,7 +12,7 @@ use Rattle.sig_flag.specs.declared.flags.Taken.{Taken}
 use Rattle.sig_flag.specs.declared.flags.Taken.TheVariants.{Turn, Held}
 use Rattle.sig_flag.specs.declared.shape.FlagShape.{FlagShape}
 use Rattle.sig_hist.specs.Histories.{IsFront, is_closed, own_entries}
-use Rattle.sig_hist.specs.OneThread.{version_of}
+use Rattle.sig_hist.specs.Plain.{version_of}
 use Rattle.sig_hist.specs.Sources.{IsPlan, IsIn, IsSource, writers_of}
 use Rattle.sig_hist.specs.declared.edits.Entry.{Entry}
 use Rattle.sig_hist.specs.declared.plans.SourcePlan.{SourcePlan}

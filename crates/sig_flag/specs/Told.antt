@@ -7,7 +7,7 @@ use Rattle.sig_flag.specs.Accounts.{plan_at, watch, hold}
 use Rattle.sig_flag.specs.Layouts.{Layout, leaf_at, bell_of, ready_of, words_of, poller_of}
 use Rattle.sig_flag.specs.Turns.{HasTurns}
 use Rattle.sig_flag.specs.declared.accounts.Account.{Account}
-use Rattle.sig_hist.specs.OneThread.{version_of}
+use Rattle.sig_hist.specs.Plain.{version_of}
 use Rattle.sig_hist.specs.Sources.{is_among}
 use Rattle.sig_hist.specs.declared.edits.Entry.{Entry}
 use Rattle.sig_hist.specs.declared.plans.SourcePlan.{SourcePlan}

@@ -10,8 +10,6 @@ mod opening;
 mod plays;
 mod rule;
 mod shape;
-#[cfg(test)]
-mod tests;
 mod words;
 
 pub use accounts::{Account, Hold, Knowledge, Watch};

@@ -1,17 +1,18 @@
-ghost use Rattle.std.specs.Prelude.{◌≡◌, ◌++◌, ◌+◌, ◌<◌, ◌≤◌, ◌==◌, ◌||◌, ◌^◌, [], length, pos, remove, slice_index_or, IfOk, OnOk};
+ghost use Rattle.std.specs.Prelude.{◌≡◌, ◌++◌, ◌+◌, ◌<◌, ◌≤◌, ◌^◌, [], length, pos, remove, slice_index_or, IfOk, OnOk};
 ghost use Rattle.std.specs.List.{flat_map};
 ghost use Rattle.sig_diff.specs.Blocks.{offset};
-ghost use Rattle.sig_diff.specs.Choosing.{list_for};
-ghost use Rattle.sig_diff.specs.Differences.{IsLawful};
-ghost use Rattle.sig_diff.specs.Numbers.{class_of};
+ghost use Rattle.sig_diff.specs.Choosing.{chooses_same, list_for};
+ghost use Rattle.sig_diff.specs.Differences.{IsLawful, applied};
 ghost use Rattle.sig_flat.specs.Changed.{changed_blocks};
 ghost use Rattle.sig_flat.specs.Flattening.{bank_gives, bank_next, begins, block, block_at, block_gives, block_moves, flattened, outer_gives, outer_next, part_at, same_moves, shifts};
 ghost use Rattle.sig_flat.specs.Runs.{inserts, removes};
 ghost use Rattle.sig_ops.specs.Sizes.{resized};
-ghost use Rattle.sig_ops.specs.Turns.{Turns};
+ghost use Rattle.sig_ops.specs.Leading.{LeadsTo};
 
-use crate::runs::{inserts, pops, pushes, removes};
-use sig_diff::{Diffs, Items, Lists, NoMemory, VecDiff, apply, class_of};
+use crate::runs::{give_further, inserts, pops, pushes, removes};
+use sig_diff::{
+    Diffs, Items, Lists, NoMemory, TryCopy, VecDiff, apply, chooses_same, class_of, list_for,
+};
 use std::alloc::Global;
 use std::marker::Model;
 
@@ -44,11 +45,12 @@ impl Flatten {
 
     /// All blocks, for the outer list and the bank from then on.
     pub fn start(&mut self, outer: &Items<i64>, bank: &Lists) -> Result<Items<i64>, NoMemory>
+        requires { length outer.now ≤ 65536 }
         ensures view { IfOk result (λ items. items ≡ flattened (record { outer = outer.now; parts = bank.now })) }
         ensures state { OnOk result (self.new ≡ record { outer = outer.now; parts = bank.now }) }
     {
         self.outer = outer.copy()?;
-        self.parts = copied(bank.alloc(), bank.as_slice())?;
+        self.parts = bank.copy()?.into_vec();
         joined(outer.alloc(), bank.as_slice(), outer.as_slice())
     }
 
@@ -57,9 +59,11 @@ impl Flatten {
         requires lawful { IsLawful diff.now (length self.old.outer) }
         requires short { length (flattened self.old) ≤ 65536 }
         requires short_after { length (flattened (outer_next self.old diff.now)) ≤ 65536 }
+        requires short_outer { length self.old.outer ≤ 65536 }
+        requires short_outer_after { length (applied self.old.outer diff.now) ≤ 65536 }
         ensures given { OnOk result (given.new ≡ given.old ++ outer_gives self.old diff.now) }
         ensures state { OnOk result (self.new ≡ outer_next self.old diff.now) }
-        ensures law { Turns (flattened self.old) (outer_gives self.old diff.now) (flattened (outer_next self.old diff.now)) }
+        ensures law { LeadsTo (flattened self.old) (outer_gives self.old diff.now) (flattened (outer_next self.old diff.now)) }
     {
         self.give(diff, given)?;
         apply(&mut self.outer, diff)
@@ -79,7 +83,7 @@ impl Flatten {
         requires short_part { length (part_at self.old child) ≤ 65536 }
         ensures given { OnOk result (given.new ≡ given.old ++ bank_gives self.old child diff.now) }
         ensures state { OnOk result (self.new ≡ bank_next self.old child diff.now) }
-        ensures law { Turns (flattened self.old) (bank_gives self.old child diff.now) (flattened (bank_next self.old child diff.now)) }
+        ensures law { LeadsTo (flattened self.old) (bank_gives self.old child diff.now) (flattened (bank_next self.old child diff.now)) }
     {
         let old_len = self.part_len(child);
         self.change_part(child, diff)?;
@@ -163,11 +167,9 @@ impl Flatten {
     /// Whether another number has the block of the element at a place. An empty bank has no other.
     fn keeps_block(&self, index: usize, value: i64) -> bool
         requires { index < length self.now.outer }
-        ensures { result ≡ ((length self.now.parts == 0)
-            || (class_of (length self.now.parts) (slice_index_or self.now.outer index (pos 0)) == class_of (length self.now.parts) value)) }
+        ensures { result ≡ chooses_same (length self.now.parts) (slice_index_or self.now.outer index (pos 0)) value }
     {
-        let count = self.parts.len();
-        count == 0 || class_of(self.outer.as_slice()[index], count) == class_of(value, count)
+        chooses_same(self.parts.len(), self.outer.as_slice()[index], value)
     }
 
     /// The block of the element at a place goes, and that of another number comes.
@@ -205,7 +207,7 @@ impl Flatten {
     fn block(&self, number: i64) -> &[i64]
         ensures { result.now ≡ block self.now number }
     {
-        block(self.parts.as_slice(), number)
+        list_for(self.parts.as_slice(), number)
     }
 
     /// How long the block of the element at a place is.
@@ -265,12 +267,13 @@ fn give_blocks(
         if class_of(*element, parts.len()) == child {
             give_block(old_len, place, diff, given)?;
         }
-        place += block(parts, *element).len() as u32;
+        place += list_for(parts, *element).len() as u32;
     }
     Ok(())
 }
 
 /// Adds what a block gives for a difference, which was so long before it and begins at a place.
+#[tactic(auto, using(crate::proofs::Further::last_place_within))]
 fn give_block(
     old_len: u32,
     place: u32,
@@ -287,24 +290,10 @@ fn give_block(
             removes(old_len, place, given)?;
             inserts(place, values.as_slice(), given)
         }
-        VecDiff::InsertAt { index, value } => given.push(VecDiff::InsertAt {
-            index: place + *index,
-            value: *value,
-        }),
-        VecDiff::UpdateAt { index, value } => given.push(VecDiff::UpdateAt {
-            index: place + *index,
-            value: *value,
-        }),
-        VecDiff::RemoveAt { index } => given.push(VecDiff::RemoveAt {
-            index: place + *index,
-        }),
-        VecDiff::Move {
-            old_index,
-            new_index,
-        } => given.push(VecDiff::Move {
-            old_index: place + *old_index,
-            new_index: place + *new_index,
-        }),
+        VecDiff::InsertAt { .. }
+        | VecDiff::UpdateAt { .. }
+        | VecDiff::RemoveAt { .. }
+        | VecDiff::Move { .. } => give_further(place, diff, given),
         VecDiff::Push { value } => given.push(VecDiff::InsertAt {
             index: place + old_len,
             value: *value,
@@ -316,24 +305,13 @@ fn give_block(
     }
 }
 
-/// The list of the number's class, or the empty one where there is none.
-fn block(parts: &[Items<i64>], number: i64) -> &[i64]
-    ensures { result.now ≡ list_for parts.now number }
-{
-    if parts.is_empty() {
-        &[]
-    } else {
-        parts[class_of(number, parts.len())].as_slice()
-    }
-}
-
 /// The blocks of the elements, one behind another.
 fn joined(alloc: Global, parts: &[Items<i64>], outer: &[i64]) -> Result<Items<i64>, NoMemory>
     ensures { IfOk result (λ items. items ≡ flat_map (list_for parts.now) outer.now) }
 {
     let mut items = Vec::new(alloc);
     'elements: for element in outer {
-        items.extend_from_slice(block(parts, *element))?;
+        items.extend_from_slice(list_for(parts, *element))?;
     }
     Ok(Items::from_vec(items))
 }
@@ -345,19 +323,9 @@ fn joined_len(parts: &[Items<i64>], outer: &[i64]) -> u32
 {
     let mut len = 0;
     'elements: for element in outer {
-        len += block(parts, *element).len() as u32;
+        len += list_for(parts, *element).len() as u32;
     }
     len
-}
-
-fn copied(alloc: Global, lists: &[Items<i64>]) -> Result<Vec<Items<i64>>, NoMemory>
-    ensures { IfOk result (λ copies. copies.items ≡ lists.now) }
-{
-    let mut copies = Vec::new(alloc);
-    'lists: for list in lists {
-        copies.push(list.copy()?)?;
-    }
-    Ok(copies)
 }
 
 /// Adds the differences by which a block with so many elements moves from a place to another, which is counted without it.

@@ -2,9 +2,9 @@ ghost use Rattle.std.specs.Prelude.{◌≡◌, ◌++◌, ◌<◌, ◌≤◌, ◌
 ghost use Rattle.sig_diff.specs.Differences.{IsLawful, applied};
 ghost use Rattle.sig_flat.specs.Joining.{half, joined_gives, joined_next, left_gives, right_gives};
 ghost use Rattle.sig_ops.specs.Sizes.{resized};
-ghost use Rattle.sig_ops.specs.Turns.{Turns};
+ghost use Rattle.sig_ops.specs.Leading.{LeadsTo};
 
-use crate::runs::{inserts, pops, pushes, removes};
+use crate::runs::{give_further, inserts, pops, pushes, removes};
 use sig_diff::{Diffs, Items, NoMemory, TryCopy, VecDiff};
 use sig_ops::resized;
 use std::alloc::Global;
@@ -61,9 +61,13 @@ impl Concat {
         ensures given { OnOk result (given.new ≡ given.old ++ joined_gives self.old child diff.now) }
         ensures state { OnOk result (self.new ≡ joined_next self.old child diff.now) }
         ensures left_law { (left right : List ℤ) → length left ≡ self.old.left → length right ≡ self.old.right → child ≡ 0
-            → Turns (left ++ right) (joined_gives self.old child diff.now) (applied left diff.now ++ right) }
+            → LeadsTo (left ++ right) (joined_gives self.old child diff.now) (applied left diff.now ++ right) }
         ensures right_law { (left right : List ℤ) → length left ≡ self.old.left → length right ≡ self.old.right → child ≡ 1
-            → Turns (left ++ right) (joined_gives self.old child diff.now) (left ++ applied right diff.now) }
+            → LeadsTo (left ++ right) (joined_gives self.old child diff.now) (left ++ applied right diff.now) }
+        ensures left_len { (left right : List ℤ) → length left ≡ self.old.left → length right ≡ self.old.right → child ≡ 0
+            → OnOk result ((self.new.left ≡ length (applied left diff.now)) × (self.new.right ≡ length right)) }
+        ensures right_len { (left right : List ℤ) → length left ≡ self.old.left → length right ≡ self.old.right → child ≡ 1
+            → OnOk result ((self.new.left ≡ length left) × (self.new.right ≡ length (applied right diff.now))) }
     {
         match child {
             0 => self.step_left(diff, given),
@@ -130,6 +134,7 @@ fn change_front(left: u32, diff: &VecDiff<i64>, given: &mut Diffs<i64>) -> Resul
 }
 
 /// Adds what is given for a difference of the right elements, behind so many left ones.
+#[tactic(auto, using(crate::proofs::Further::last_place_within))]
 fn change_back(
     left: u32,
     right: u32,
@@ -146,24 +151,10 @@ fn change_back(
             pops(right, given)?;
             pushes(values.as_slice(), given)
         }
-        VecDiff::InsertAt { index, value } => given.push(VecDiff::InsertAt {
-            index: left + *index,
-            value: *value,
-        }),
-        VecDiff::UpdateAt { index, value } => given.push(VecDiff::UpdateAt {
-            index: left + *index,
-            value: *value,
-        }),
-        VecDiff::RemoveAt { index } => given.push(VecDiff::RemoveAt {
-            index: left + *index,
-        }),
-        VecDiff::Move {
-            old_index,
-            new_index,
-        } => given.push(VecDiff::Move {
-            old_index: left + *old_index,
-            new_index: left + *new_index,
-        }),
+        VecDiff::InsertAt { .. }
+        | VecDiff::UpdateAt { .. }
+        | VecDiff::RemoveAt { .. }
+        | VecDiff::Move { .. } => give_further(left, diff, given),
         VecDiff::Push { .. } | VecDiff::Pop => given.push(diff.copy()?),
         VecDiff::Clear => pops(right, given),
     }

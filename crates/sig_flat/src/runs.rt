@@ -1,7 +1,7 @@
-ghost use Rattle.std.specs.Prelude.{◌≡◌, ◌++◌, ◌+◌, ◌^◌, ◌<◌, length, OnOk};
-ghost use Rattle.sig_flat.specs.Runs.{inserts, pops, pushes, removes};
+ghost use Rattle.std.specs.Prelude.{◌≡◌, ◌++◌, ◌∷◌, [], ◌+◌, ◌^◌, ◌<◌, length, OnOk};
+ghost use Rattle.sig_flat.specs.Runs.{further, inserts, last_place, pops, pushes, removes};
 
-use sig_diff::{Diffs, NoMemory, VecDiff};
+use sig_diff::{Diffs, NoMemory, TryCopy, VecDiff};
 
 /// Adds so many differences by which the element at a place goes.
 pub fn removes(count: u32, place: u32, given: &mut Diffs<i64>) -> Result<(), NoMemory>
@@ -47,4 +47,38 @@ pub fn pushes(values: &[i64], given: &mut Diffs<i64>) -> Result<(), NoMemory>
         given.push(VecDiff::Push { value: *value })?;
     }
     Ok(())
+}
+
+/// Adds the difference of a part of a list as one of the whole, where so many elements are before the part.
+pub fn give_further(
+    places: u32,
+    diff: &VecDiff<i64>,
+    given: &mut Diffs<i64>,
+) -> Result<(), NoMemory>
+    requires { places + last_place diff.now < 2 ^ 32 }
+    ensures { OnOk result (given.new ≡ given.old ++ further places diff.now ∷ []) }
+{
+    given.push(match diff {
+        VecDiff::InsertAt { index, value } => VecDiff::InsertAt {
+            index: places + *index,
+            value: *value,
+        },
+        VecDiff::UpdateAt { index, value } => VecDiff::UpdateAt {
+            index: places + *index,
+            value: *value,
+        },
+        VecDiff::RemoveAt { index } => VecDiff::RemoveAt {
+            index: places + *index,
+        },
+        VecDiff::Move {
+            old_index,
+            new_index,
+        } => VecDiff::Move {
+            old_index: places + *old_index,
+            new_index: places + *new_index,
+        },
+        VecDiff::Replace { .. } | VecDiff::Push { .. } | VecDiff::Pop | VecDiff::Clear => {
+            diff.copy()?
+        }
+    })
 }

@@ -1,5 +1,5 @@
 -- What a source counts, and how that goes on by one more entry.
-use Rattle.std.proofs.Common.{◌≡◌, ◌∙◌, ℕ, suc, ◌+◌, ◌-◌, ◌<◌, ◌≤◌, ◌==◌, List, [], ◌∷◌, ◌++◌, length, map, get_or, slice_set, cond, Bool, true, false, ◌&&◌, ◌||◌, refl, sym, ap, ap₂, eq-eqb, arith}
+use Rattle.std.proofs.Common.{◌≡◌, ◌∙◌, ℕ, suc, ◌+◌, ◌-◌, ◌<◌, ◌≤◌, ◌==◌, List, [], ◌∷◌, ◌++◌, length, map, get_or, slice_set, cond, Bool, true, false, ◌&&◌, ◌||◌, refl, sym, ap, ap₂, eq-eqb, true≢false, arith}
 use Rattle.std.proofs.lemmas.Bool.Decides.{nat_tests}
 use Rattle.std.proofs.lemmas.Bool.{eqb-true, or_parts}
 use Rattle.std.proofs.lemmas.List.Folds.{list_all-append}
@@ -9,9 +9,10 @@ use Rattle.std.specs.List.{list_all, list_any}
 use Rattle.sig_diff.specs.declared.contents.Content.{Content}
 use Rattle.sig_hist.proofs.Entries.{state_append, legal_append, own_entries_own, own_entries_other, ends_with_leave_append, leave_stays, leave_is_fine}
 use Rattle.sig_hist.specs.Changes.{edited, reply_to, size_of}
-use Rattle.sig_hist.specs.Counting.{allowances_of, starting, IsPlace, place_of, all_left, IsLeft, IsCounted, AreCounted, Falls, MayEdit, IsKept}
-use Rattle.sig_hist.specs.Histories.{own_entries, is_leave, has_left, is_closed}
-use Rattle.sig_hist.specs.Sources.{writers_of, is_among, AreDistinct, allowed, room_of, IsPlan, Source, content_of, entered, IsIn, made}
+use Rattle.sig_hist.specs.Counting.{allowances_of, starting, IsPlace, place_of, all_left, IsLeft, IsCounted, AreCounted, Falls, IsKept}
+use Rattle.sig_hist.specs.Histories.{edits_made, own_entries, is_leave, has_left, is_closed}
+use Rattle.sig_hist.proofs.Staying.{edits_append, edits_within_entries, leaves_last_append, no_leaves}
+use Rattle.sig_hist.specs.Sources.{writers_of, is_among, AreDistinct, allowed, room_of, IsPlan, Source, content_of, entered, IsIn, MayEdit, made}
 use Rattle.sig_hist.specs.declared.edits.Edit.{Edit}
 use Rattle.sig_hist.specs.declared.edits.Edit.TheVariants.{Leave}
 use Rattle.sig_hist.specs.declared.edits.Entry.{Entry}
@@ -42,7 +43,7 @@ pub kept_start : (plan : SourcePlan) (capacity : ℕ) → IsPlan plan → room_o
 kept_start plan capacity is room =
     let writers = are_starting plan.allow in
     record {
-      of_source = record { plan = is; within_cap = is.within_cap; legal = tt; by_writers = refl; room = omega arith };
+      of_source = record { plan = is; within_cap = is.within_cap; legal = tt; by_writers = refl; room = omega arith; allowances = λ caller. omega arith; leaves_last = no_leaves };
       of_cap = refl;
       of_content = refl;
       of_writers = writers.allowances;
@@ -148,9 +149,25 @@ module _ {source : Source} {cap : ℕ} {content : Content} {writers : List Write
       record { some = counted.0; made_so_far = counted.1; may_make = its.may_make; room = omega (arith, changed_left 0, kept.left, kept.room) }
 
   module _ (edit : Edit) (reply : Reply) (after : Content) (replies : reply ≡ reply_to content cap edit) (changes : after ≡ edited content cap edit) (fits : size_of after ≤ cap) where
-    goes_on : (left : ℕ) → Falls (is_leave edit) writer.left left →
+    -- an entry that is an edit is one more of its caller's
+    within_allowances : (is_leave edit ≡ false → MayEdit source caller) → (other : ℕ) →
+        edits_made other (source.history ++ record { caller = caller; edit = edit; reply = reply } ∷ []) ≤ allowed other source.plan.allow
+    within_allowances may other =
+        elim (caller == other) as (λ own. (caller == other) ≡ own → edits_made other (source.history ++ record { caller = caller; edit = edit; reply = reply } ∷ []) ≤ allowed other source.plan.allow) [
+          | true ↦ λ own.
+              elim (is_leave edit) as (λ leaves. is_leave edit ≡ leaves → edits_made other (source.history ++ record { caller = caller; edit = edit; reply = reply } ∷ []) ≤ allowed other source.plan.allow) [
+                | true ↦ λ leaves. rw (edits_append, own, leaves) (omega (arith, kept.of_source.allowances other))
+                | false ↦ λ leaves.
+                    let same : caller ≡ other = eqb-true caller other own in
+                    let fewer : length (own_entries other source.history) < allowed other source.plan.allow = rw same at (may leaves).made_fewer in
+                    rw (edits_append, own, leaves) (omega (arith, edits_within_entries other source.history, fewer))
+              ] refl
+          | false ↦ λ own. rw (edits_append, own) (omega (arith, kept.of_source.allowances other))
+        ] refl
+
+    goes_on : (left : ℕ) → Falls (is_leave edit) writer.left left → (is_leave edit ≡ false → MayEdit source caller) →
         IsKept (entered source (record { caller = caller; edit = edit; reply = reply })) cap after (slice_set writers place (record writer { left = left })) capacity
-    goes_on left falls =
+    goes_on left falls may =
         let entry : Entry = record { caller = caller; edit = edit; reply = reply } in
         let after_is : after ≡ content_of (entered source entry) = rw (changes, state_append source.plan.start source.plan.cap source.history (entry ∷ []), kept.of_content, kept.of_cap) refl in
         let one_less : left + 1 ≤ writer.left = falls_short (is_leave edit) writer.left left stays.some falls in
@@ -163,6 +180,8 @@ module _ {source : Source} {cap : ℕ} {content : Content} {writers : List Write
             legal = legal_append source.plan.start source.plan.cap source.history entry kept.of_source.legal (rw (kept.of_content, kept.of_cap) at replies);
             by_writers = rw (list_all-append, kept.of_source.by_writers, is_in.is_writer) refl;
             room = omega arith;
+            allowances = within_allowances may;
+            leaves_last = leaves_last_append source.history entry kept.of_source.leaves_last is_in.stays;
           };
           of_cap = kept.of_cap;
           of_content = after_is;
@@ -178,9 +197,9 @@ module _ {source : Source} {cap : ℕ} {content : Content} {writers : List Write
     kept_edit no_leave may =
         let writer_stays = stays in
         let falls : (0 < writer.left - 1) × (writer.left - 1 + 1 ≡ writer.left) = (omega arith, omega arith) in
-        goes_on (writer.left - 1) (rw no_leave falls)
+        goes_on (writer.left - 1) (rw no_leave falls) (λ edits. may)
 
   pub kept_leave : IsKept (entered source (record { caller = caller; edit = Leave; reply = Fine })) cap content (slice_set writers place (record writer { left = 0 })) capacity
   kept_leave =
       let fits : size_of content ≤ cap = rw (kept.of_content, kept.of_cap) kept.of_source.within_cap in
-      goes_on Leave Fine content (sym (leave_is_fine content cap)) (sym (leave_stays content cap)) fits 0 refl
+      goes_on Leave Fine content (sym (leave_is_fine content cap)) (sym (leave_stays content cap)) fits 0 refl (λ edits. absurd (true≢false edits))

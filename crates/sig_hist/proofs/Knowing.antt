@@ -6,11 +6,13 @@ use Rattle.std.proofs.lemmas.List.{get_or_default, get_or-set_same, get_or-set_o
 use Rattle.std.proofs.lemmas.List.Edits.{map_over_more}
 use Rattle.std.proofs.lemmas.List.Elements.{All-map, All-set, All-tail, All-weaker}
 use Rattle.sig_hist.proofs.Counts.{kept_start}
+use Rattle.sig_hist.proofs.Mapped.{mapped}
+use Rattle.sig_hist.proofs.Staying.{no_leaves}
 use Rattle.sig_hist.specs.Entering.{entering_from}
-use Rattle.sig_hist.specs.OneThread.{OneThread, IsOneThread, no_source, no_leaf, source_at, leaf_at, version_of, known, after_leave, leaf_checked, leaf_settled, leaf_armed, source_of, leaf_of}
+use Rattle.sig_hist.specs.Plain.{OneThread, IsOneThread, no_source, no_leaf, source_at, leaf_at, version_of, known, after_leave, leaf_checked, leaf_settled, leaf_armed, source_of, leaf_of}
 use Rattle.sig_hist.specs.Ports.{IsSoundPort, put, looked, at_rest, armed, seen_of, IsFetch, IsFetchInVain, IsFetchRefusal}
 use Rattle.sig_hist.specs.Sources.{Source, IsPlan, IsSource, room_of}
-use Rattle.sig_hist.specs.declared.plain.PlainLeaf.{PlainLeaf}
+use Rattle.sig_hist.specs.declared.bells.PlainLeaf.{PlainLeaf}
 use Rattle.sig_hist.specs.declared.plans.SourcePlan.{SourcePlan}
 use Rattle.sig_hist.specs.declared.ports.Condition.TheVariants.{Idle}
 use Rattle.sig_hist.specs.declared.ports.Fetched.{Fetched}
@@ -34,11 +36,6 @@ left_more caller xs ys at within long is = changed_more (after_leave caller) xs 
 -- a list whose items were all written
 pub all_written : {X : Type 0} (xs ys : List X) (n : ℕ) → length ys ≡ n → take n (ys ++ drop (length ys) xs) ≡ ys
 all_written xs ys n long = take_at ys (drop (length ys) xs) n long
-
-mapped : (f : PlainLeaf → PlainLeaf) → f no_leaf ≡ no_leaf → (leaves : List PlainLeaf) (leaf : ℕ) → get_or (map f leaves) leaf no_leaf ≡ f (get_or leaves leaf no_leaf)
-mapped f none [] leaf = sym none
-mapped f none (first ∷ leaves) zero = refl
-mapped f none (first ∷ leaves) (suc leaf) = mapped f none leaves leaf
 
 same_put : {X : Type 0} (f : ℕ → X) (at k : ℕ) → put f at (f at) k ≡ f k
 same_put f at k = elim (k == at) as (λ same. (k == at) ≡ same → cond same (f at) (f k) ≡ f k) [
@@ -134,6 +131,8 @@ no_source_is = record {
   legal = tt;
   by_writers = refl;
   room = omega arith;
+  allowances = λ caller. omega arith;
+  leaves_last = no_leaves;
 }
 
 pub known_is_sound : (port : OneThread) → IsOneThread port → IsSoundPort (known port)

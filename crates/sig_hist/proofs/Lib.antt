@@ -1,5 +1,10 @@
+pub mod Among
 pub mod Counts
 pub mod Entries
 pub mod InOrder
 pub mod Knowing
 pub mod Telling
+pub mod Staying
+pub mod Mapped
+pub mod Listing
+pub mod Ways

@@ -16,7 +16,7 @@ use Rattle.sig_hist.specs.Changes.{Change, after, answer_to, can_load, change_of
 use Rattle.sig_hist.specs.Entering.{all_entering, as_list, as_map, as_number, entering_from, is_far, latest, value_entering}
 use Rattle.sig_hist.specs.Histories.{changes_by, state, IsLegal}
 use Rattle.sig_hist.specs.Sources.{Source, content_of}
-use Rattle.sig_hist.specs.Told.{told_entering, told_list, told_map, told_number, told_put, took_effect}
+use Rattle.sig_hist.specs.ByReplies.{replied_entering, replied_list, replied_map, replied_number, replied_put, took_effect}
 use Rattle.sig_hist.specs.declared.edits.Edit.{Edit}
 use Rattle.sig_hist.specs.declared.edits.Edit.TheVariants.{SetNeq, Put, Delete, Load}
 use Rattle.sig_hist.specs.declared.edits.Entry.{Entry}
@@ -50,7 +50,7 @@ number_told : (x y : ℤ) (same : Bool) → option_and_then as_number (cond same
 number_told x y true = refl
 number_told x y false = refl
 
-number_of : (content : Content) (cap : ℕ) (edit : Edit) → kind_of content ≡ Kind.Cell → option_and_then as_number (change_of content cap edit) ≡ told_number edit (reply_to content cap edit)
+number_of : (content : Content) (cap : ℕ) (edit : Edit) → kind_of content ≡ Kind.Cell → option_and_then as_number (change_of content cap edit) ≡ replied_number edit (reply_to content cap edit)
 number_of (Cell x) cap (SetNeq y) is = number_told x y (int_eq x y)
 number_of (Cell x) cap edit is = refl
 number_of content cap edit is = cc
@@ -67,12 +67,12 @@ list_told true true n diff answer effect = refl
 list_told true false n diff answer effect = rw effect refl
 list_told false long n diff answer effect = refl
 
-list_of : (content : Content) (cap : ℕ) (edit : Edit) → kind_of content ≡ Kind.Vector → option_and_then as_list (change_of content cap edit) ≡ told_list edit (reply_to content cap edit)
+list_of : (content : Content) (cap : ℕ) (edit : Edit) → kind_of content ≡ Kind.Vector → option_and_then as_list (change_of content cap edit) ≡ replied_list edit (reply_to content cap edit)
 list_of (Vector xs) cap (Edit.Vector diff) is = list_told (is_lawful diff (length xs)) (is_long diff (length xs) cap) (length xs) diff (answer_to xs diff) (answer_told xs diff)
 list_of (Vector xs) cap edit is = refl
 list_of content cap edit is = cc
 
-put_told : (found : Option ℤ) (room : Bool) (key value : ℤ) (n : ℕ) → option_and_then as_map (put_change (is_some found) room key value) ≡ told_put key value (put_reply found room n)
+put_told : (found : Option ℤ) (room : Bool) (key value : ℤ) (n : ℕ) → option_and_then as_map (put_change (is_some found) room key value) ≡ replied_put key value (put_reply found room n)
 put_told (Some old) room key value n = refl
 put_told None true key value n = refl
 put_told None false key value n = refl
@@ -85,7 +85,7 @@ load_told : (fits : Bool) (others : List (ℤ × ℤ)) (n : ℕ) → option_and_
 load_told true others n = refl
 load_told false others n = refl
 
-map_of : (content : Content) (cap : ℕ) (edit : Edit) → kind_of content ≡ Kind.Map → option_and_then as_map (change_of content cap edit) ≡ told_map edit (reply_to content cap edit)
+map_of : (content : Content) (cap : ℕ) (edit : Edit) → kind_of content ≡ Kind.Map → option_and_then as_map (change_of content cap edit) ≡ replied_map edit (reply_to content cap edit)
 map_of (Map entries) cap (Put key value) is = put_told (value_at key entries) (nat_lt (length entries) cap) key value (length entries)
 map_of (Map entries) cap (Delete key) is = delete_told (value_at key entries) key
 map_of (Map entries) cap (Load others) is = load_told (can_load cap others) others (length entries)
@@ -120,13 +120,13 @@ far_told : {X : Type 0} (enters : X → Entering) (far : Bool) (x y : X) → con
 far_told enters true x y = refl
 far_told enters false x y = refl
 
-entering_told : (before after : Content) (cap : ℕ) (passed : List Entry) → after ≡ state before cap passed → kind_of after ≡ kind_of before → IsLegal before cap passed → told_entering after passed ≡ all_entering before cap passed
+entering_told : (before after : Content) (cap : ℕ) (passed : List Entry) → after ≡ state before cap passed → kind_of after ≡ kind_of before → IsLegal before cap passed → replied_entering after passed ≡ all_entering before cap passed
 entering_told (Cell x) (Cell y) cap passed is kind legal =
-    rw (← is, all_told Kind.Cell as_number told_number cap (λ content. number_of content cap) (Cell x) passed refl legal) (sym (last_told _ passed y))
+    rw (← is, all_told Kind.Cell as_number replied_number cap (λ content. number_of content cap) (Cell x) passed refl legal) (sym (last_told _ passed y))
 entering_told (Vector xs) (Vector ys) cap passed is kind legal =
-    rw (← is, all_told Kind.Vector as_list told_list cap (λ content. list_of content cap) (Vector xs) passed refl legal) (far_told entering.Vector (is_far passed) _ _)
+    rw (← is, all_told Kind.Vector as_list replied_list cap (λ content. list_of content cap) (Vector xs) passed refl legal) (far_told entering.Vector (is_far passed) _ _)
 entering_told (Map entries) (Map others) cap passed is kind legal =
-    rw (← is, all_told Kind.Map as_map told_map cap (λ content. map_of content cap) (Map entries) passed refl legal) (far_told entering.Map (is_far passed) _ _)
+    rw (← is, all_told Kind.Map as_map replied_map cap (λ content. map_of content cap) (Map entries) passed refl legal) (far_told entering.Map (is_far passed) _ _)
 entering_told before after cap passed is kind legal = cc
 
 -- ---- the end of a history
@@ -141,7 +141,7 @@ state_split content cap entries zero = refl
 state_split content cap [] (suc at) = refl
 state_split content cap (entry ∷ entries) (suc at) = state_split (edited content cap entry.edit) cap entries at
 
-pub entering_is : (source : Source) (position : ℕ) → IsLegal source.plan.start source.plan.cap source.history → told_entering (content_of source) (drop position source.history) ≡ entering_from source (Some position)
+pub entering_is : (source : Source) (position : ℕ) → IsLegal source.plan.start source.plan.cap source.history → replied_entering (content_of source) (drop position source.history) ≡ entering_from source (Some position)
 entering_is source position legal =
     let before : Content = state source.plan.start source.plan.cap (take position source.history) in
     let passed : List Entry = drop position source.history in

@@ -3,7 +3,7 @@ use Rattle.std.specs.Prelude.{◌≡◌, ℕ, suc, ◌+◌, ◌<◌, ◌≤◌, 
 use Rattle.std.specs.List.{sum_by}
 use Rattle.sig_diff.specs.declared.contents.Content.{Content}
 use Rattle.sig_hist.specs.Histories.{own_entries, has_left}
-use Rattle.sig_hist.specs.Sources.{Source, IsSource, content_of, made, allowed, room_of}
+use Rattle.sig_hist.specs.Sources.{Source, IsSource, content_of, room_of}
 use Rattle.sig_hist.specs.declared.edits.Entry.{Entry}
 use Rattle.sig_hist.specs.declared.plans.Allowance.{Allowance}
 use Rattle.sig_hist.specs.declared.writers.Writer.{Writer}
@@ -45,10 +45,6 @@ AreCounted history (writer ∷ writers) = IsCounted history writer × AreCounted
 abbrev pub Falls : Bool → ℕ → ℕ → Type 0
 Falls true before now = now ≡ 0
 Falls false before now = (0 < now) × (now + 1 ≡ before)
-
--- a caller hasn't made all its edits
-pub record MayEdit (source : Source) (caller : ℕ) : Type 0 where
-  pub made_fewer : made source caller < allowed caller source.plan.allow
 
 -- what a source keeps: its content and its writers are those of its history, which has room for all that may come
 pub record IsKept (source : Source) (cap : ℕ) (content : Content) (writers : List Writer) (capacity : ℕ) : Type 0 where

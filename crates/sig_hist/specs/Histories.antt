@@ -1,7 +1,7 @@
 -- Histories of a source: the content after some entries, legal and closed histories, and a writer's own entries.
-use Rattle.std.specs.Prelude.{◌≡◌, ℕ, ◌==◌, List, [], ◌∷◌, ◌++◌, length, take, filter, Bool, true, false}
+use Rattle.std.specs.Prelude.{◌≡◌, ℕ, ◌==◌, ◌&&◌, List, [], ◌∷◌, ◌++◌, length, take, filter, slice_get, Bool, true, false, not, Some}
 use Rattle.std.specs.Option.{option_to_list}
-use Rattle.std.specs.List.{list_all}
+use Rattle.std.specs.List.{count_by, list_all}
 use Rattle.sig_diff.specs.declared.contents.Content.{Content}
 use Rattle.sig_hist.specs.Changes.{Change, change_of, edited, reply_to}
 use Rattle.sig_hist.specs.declared.edits.Edit.{Edit}
@@ -48,3 +48,11 @@ has_left writer entries = ends_with_leave (own_entries writer entries)
 -- every writer has left
 abbrev pub is_closed : List ℕ → List Entry → Bool
 is_closed writers entries = list_all (λ writer. has_left writer entries) writers
+
+-- how many edits a caller has made: its entries but its leave
+abbrev pub edits_made : ℕ → List Entry → ℕ
+edits_made caller entries = count_by (λ entry. entry.caller == caller && not (is_leave entry.edit)) entries
+
+-- no entry of a caller stands after its leave
+abbrev pub LeavesComeLast : List Entry → Type 0
+LeavesComeLast history = (place : ℕ) (entry : Entry) → slice_get history place ≡ Some entry → has_left entry.caller (take place history) ≡ false

@@ -2,7 +2,10 @@ pub mod Changes
 pub mod Counting
 pub mod Entering
 pub mod Histories
-pub mod OneThread
+pub mod Plain
+pub mod Bells
 pub mod Ports
 pub mod Sources
-pub mod Told
+pub mod ByReplies
+pub mod laws
+pub mod Ways

@@ -3,7 +3,7 @@ use Rattle.std.specs.Prelude.{◌≡◌, ℕ, ◌+◌, ◌<◌, ◌≤◌, ◌^�
 use Rattle.std.specs.List.{list_any, list_all}
 use Rattle.sig_diff.specs.declared.contents.Content.{Content}
 use Rattle.sig_hist.specs.Changes.{IsInOrder, size_of}
-use Rattle.sig_hist.specs.Histories.{state, IsLegal, own_entries, has_left}
+use Rattle.sig_hist.specs.Histories.{state, IsLegal, LeavesComeLast, edits_made, own_entries, has_left}
 use Rattle.sig_hist.specs.declared.edits.Entry.{Entry}
 use Rattle.sig_hist.specs.declared.plans.Allowance.{Allowance}
 use Rattle.sig_hist.specs.declared.plans.SourcePlan.{SourcePlan}
@@ -60,6 +60,10 @@ pub record IsIn (source : Source) (caller : ℕ) : Type 0 where
 abbrev pub made : Source → ℕ → ℕ
 made source caller = length (own_entries caller source.history)
 
+-- a caller hasn't made all its edits
+pub record MayEdit (source : Source) (caller : ℕ) : Type 0 where
+  pub made_fewer : made source caller < allowed caller source.plan.allow
+
 -- why an edit was refused: the caller has made all that it may, or it hasn't and memory was wanting
 abbrev pub IsRefusal : Source → ℕ → EditError → Type 0
 IsRefusal source caller (Spent edits) = (edits ≡ made source caller) × (edits ≡ allowed caller source.plan.allow)
@@ -72,3 +76,5 @@ pub record IsSource (source : Source) : Type 0 where
   pub legal : IsLegal source.plan.start source.plan.cap source.history
   pub by_writers : list_all (λ entry. is_among entry.caller (writers_of source.plan.allow)) source.history ≡ true
   pub room : length source.history ≤ room_of source.plan.allow
+  pub allowances : (caller : ℕ) → edits_made caller source.history ≤ allowed caller source.plan.allow
+  pub leaves_last : LeavesComeLast source.history

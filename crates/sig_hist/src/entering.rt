@@ -1,7 +1,7 @@
 ghost use Rattle.std.specs.Prelude.{◌≡◌, is_some, filter_map, IfOk};
 ghost use Rattle.std.specs.List.{list_any};
 ghost use Rattle.sig_hist.specs.Entering.{whole};
-ghost use Rattle.sig_hist.specs.Told.{took_effect, told_number, told_list, told_map, told_put, told_entering};
+ghost use Rattle.sig_hist.specs.ByReplies.{took_effect, replied_number, replied_list, replied_map, replied_put, replied_entering};
 
 use crate::edits::{Edit, Entry, Reply};
 use crate::ports::Entering;
@@ -34,14 +34,14 @@ pub fn whole(content: &Content) -> Result<Entering, NoMemory>
 
 /// What enters by entries that led to a content.
 pub fn entering(content: &Content, passed: &[Entry]) -> Result<Entering, NoMemory>
-    ensures { IfOk result (λ entering. entering ≡ told_entering content.now passed.now) }
+    ensures { IfOk result (λ entering. entering ≡ replied_entering content.now passed.now) }
 {
     match content {
         Content::Cell(value) if give_number(passed) => Ok(Entering::Value(*value)),
         Content::Cell(_) => Ok(Entering::Nothing),
         _ if passed.len() > MOST_TOLD => whole(content),
-        Content::Vector(items) => Ok(Entering::Vector(told_lists(items.alloc(), passed)?)),
-        Content::Map(entries) => Ok(Entering::Map(told_maps(entries.alloc(), passed)?)),
+        Content::Vector(items) => Ok(Entering::Vector(replied_lists(items.alloc(), passed)?)),
+        Content::Map(entries) => Ok(Entering::Map(replied_maps(entries.alloc(), passed)?)),
     }
 }
 
@@ -53,7 +53,7 @@ fn took_effect(reply: Reply) -> bool
 
 /// Whether an entry gave a cell a number.
 fn gives_number(entry: &Entry) -> bool
-    ensures { result ≡ is_some (told_number entry.now.edit entry.now.reply) }
+    ensures { result ≡ is_some (replied_number entry.now.edit entry.now.reply) }
 {
     match &entry.edit {
         Edit::Set(_) => true,
@@ -65,14 +65,14 @@ fn gives_number(entry: &Entry) -> bool
 
 /// Whether one of some entries gave a cell a number.
 fn give_number(passed: &[Entry]) -> bool
-    ensures { result ≡ list_any (λ entry. is_some (told_number entry.edit entry.reply)) passed.now }
+    ensures { result ≡ list_any (λ entry. is_some (replied_number entry.edit entry.reply)) passed.now }
 {
     passed.iter().any(gives_number)
 }
 
 /// The difference of a vector that an entry made.
-fn told_list(entry: &Entry) -> Result<Option<VecDiff<i64>>, NoMemory>
-    ensures { IfOk result (λ told. told ≡ told_list entry.now.edit entry.now.reply) }
+fn replied_list(entry: &Entry) -> Result<Option<VecDiff<i64>>, NoMemory>
+    ensures { IfOk result (λ told. told ≡ replied_list entry.now.edit entry.now.reply) }
 {
     match &entry.edit {
         Edit::Vector(diff) if took_effect(entry.reply) => Ok(Some(diff.copy()?)),
@@ -80,12 +80,12 @@ fn told_list(entry: &Entry) -> Result<Option<VecDiff<i64>>, NoMemory>
     }
 }
 
-fn told_lists(alloc: Global, passed: &[Entry]) -> Result<Diffs<i64>, NoMemory>
-    ensures { IfOk result (λ diffs. diffs ≡ filter_map (λ entry. told_list entry.edit entry.reply) passed.now) }
+fn replied_lists(alloc: Global, passed: &[Entry]) -> Result<Diffs<i64>, NoMemory>
+    ensures { IfOk result (λ diffs. diffs ≡ filter_map (λ entry. replied_list entry.edit entry.reply) passed.now) }
 {
     let mut diffs = Items::new(alloc);
     'passed: for entry in passed {
-        if let Some(diff) = told_list(entry)? {
+        if let Some(diff) = replied_list(entry)? {
             diffs.push(diff)?;
         }
     }
@@ -93,11 +93,11 @@ fn told_lists(alloc: Global, passed: &[Entry]) -> Result<Diffs<i64>, NoMemory>
 }
 
 /// The difference of a map that an entry made.
-fn told_map(entry: &Entry) -> Result<Option<MapDiff<i64>>, NoMemory>
-    ensures { IfOk result (λ told. told ≡ told_map entry.now.edit entry.now.reply) }
+fn replied_map(entry: &Entry) -> Result<Option<MapDiff<i64>>, NoMemory>
+    ensures { IfOk result (λ told. told ≡ replied_map entry.now.edit entry.now.reply) }
 {
     Ok(match &entry.edit {
-        Edit::Put(key, value) => told_put(*key, *value, entry.reply),
+        Edit::Put(key, value) => replied_put(*key, *value, entry.reply),
         Edit::Delete(key) if took_effect(entry.reply) => Some(MapDiff::Remove { key: *key }),
         Edit::Load(entries) if took_effect(entry.reply) => Some(MapDiff::Replace {
             entries: entries.copy()?,
@@ -107,8 +107,8 @@ fn told_map(entry: &Entry) -> Result<Option<MapDiff<i64>>, NoMemory>
     })
 }
 
-fn told_put(key: i64, value: i64, reply: Reply) -> Option<MapDiff<i64>>
-    ensures { result ≡ told_put key value reply }
+fn replied_put(key: i64, value: i64, reply: Reply) -> Option<MapDiff<i64>>
+    ensures { result ≡ replied_put key value reply }
 {
     match reply {
         Reply::Fine => Some(MapDiff::Insert { key, value }),
@@ -117,12 +117,12 @@ fn told_put(key: i64, value: i64, reply: Reply) -> Option<MapDiff<i64>>
     }
 }
 
-fn told_maps(alloc: Global, passed: &[Entry]) -> Result<MapDiffs<i64>, NoMemory>
-    ensures { IfOk result (λ diffs. diffs ≡ filter_map (λ entry. told_map entry.edit entry.reply) passed.now) }
+fn replied_maps(alloc: Global, passed: &[Entry]) -> Result<MapDiffs<i64>, NoMemory>
+    ensures { IfOk result (λ diffs. diffs ≡ filter_map (λ entry. replied_map entry.edit entry.reply) passed.now) }
 {
     let mut diffs = Items::new(alloc);
     'passed: for entry in passed {
-        if let Some(diff) = told_map(entry)? {
+        if let Some(diff) = replied_map(entry)? {
             diffs.push(diff)?;
         }
     }

@@ -1,27 +1,19 @@
-ghost use Rattle.std.specs.Prelude.{◌≡◌, ◌<◌, ◌≤◌, true, false, length, map, slice_set, All, IfSome, IfOk, IfErr, OnErr};
+ghost use Rattle.std.specs.Prelude.{◌≡◌, ◌<◌, ◌≤◌, true, false, length, map, slice_set, All, IfSome, IfOk, IfErr, OnErr, OnOk};
 ghost use Rattle.sig_hist.specs.Changes.{reply_to};
 ghost use Rattle.sig_hist.specs.Entering.{entering_from};
 ghost use Rattle.sig_hist.specs.Histories.{has_left, is_leave};
-ghost use Rattle.sig_hist.specs.Sources.{IsPlan, IsIn, IsRefusal, content_of, is_among, writers_of};
+ghost use Rattle.sig_hist.specs.Sources.{IsPlan, IsIn, IsRefusal, MayEdit, content_of, is_among, writers_of};
 ghost use Rattle.sig_hist.specs.Ports.{IsSoundPort};
-ghost use Rattle.sig_hist.specs.OneThread.{source_of, leaf_of, source_at, leaf_at, version_of, with_entry, after_leave, StaysWhereItWrites, leaf_checked, leaf_settled, leaf_armed, known};
+ghost use Rattle.sig_hist.specs.Plain.{source_of, leaf_of, source_at, leaf_at, version_of, with_entry, after_leave, StaysWhereItWrites, known};
 
+use crate::bells::Bells;
 use crate::edits::{Edit, Reply};
 use crate::plans::{EditError, Plans};
-use crate::ports::{Condition, FetchError, Fetched, Port, Rested, Version};
+use crate::ports::{FetchError, Fetched, Port, Rested, Version};
 use crate::sources::{Kept, SourceState};
 use sig_diff::{LeafList, NoMemory};
 use std::alloc::Global;
 use std::marker::Model;
-
-/// A leaf of the port of one thread.
-#[derive(Debug, Clone, Copy, PartialEq, Eq)]
-pub struct PlainLeaf {
-    pub source: usize,
-    pub condition: Condition,
-    /// How often its bell was set, as far as 64 bits reach.
-    pub arms: u64,
-}
 
 /// The token of the port of one thread. Anybody can make one.
 #[derive(Debug, Drop)]
@@ -31,17 +23,17 @@ pub struct Free;
 #[derive(Drop)]
 pub struct Plain {
     sources: Vec<SourceState>,
-    leaves: Vec<PlainLeaf>,
+    bells: Bells,
 }
 
 impl Model for Plain {
-    ghost use Rattle.sig_hist.specs.OneThread.{OneThread, IsOneThread};
+    ghost use Rattle.sig_hist.specs.Plain.{OneThread, IsOneThread};
 
     ghost Value = { OneThread };
 
-    ghost view = { λ p. record { sources = p.sources.items; leaves = p.leaves.items } };
+    ghost view = { λ p. record { sources = p.sources.items; leaves = p.bells } };
 
-    ghost invariant = { λ p. IsOneThread (record { sources = p.sources.items; leaves = p.leaves.items }) };
+    ghost invariant = { λ p. IsOneThread (record { sources = p.sources.items; leaves = p.bells }) };
 }
 
 impl Plain {
@@ -55,7 +47,7 @@ impl Plain {
     {
         let port = Plain {
             sources: sources_of(alloc, plans)?,
-            leaves: leaves_of(alloc, leaves.as_slice())?,
+            bells: Bells::new(alloc, leaves.as_slice())?,
         };
         port.tells_what_is_sound();
         Ok(port)
@@ -78,6 +70,7 @@ impl Plain {
         requires no_leave { is_leave edit.now ≡ false }
         ensures reply { IfOk result (λ reply. reply ≡ reply_to (content_of (source_at self.old source)) (source_at self.old source).plan.cap edit.now) }
         ensures entered { IfOk result (λ reply. self.new ≡ with_entry self.old source (record { caller = caller; edit = edit.now; reply = reply })) }
+        ensures may { OnOk result (MayEdit (source_at self.old source) caller) }
         ensures refused { IfErr result (IsRefusal (source_at self.old source) caller) }
         ensures err { OnErr result (self.new ≡ self.old) }
         ensures sound { IsSoundPort (known self.new) }
@@ -87,11 +80,12 @@ impl Plain {
     }
 
     /// Takes a writer of a source out. It takes no memory.
-    #[tactic(auto, using(crate::proofs::Knowing::source_changed))]
+    #[tactic(auto, using(crate::proofs::Knowing::source_changed, crate::proofs::Knowing::known_is_sound))]
     pub fn leave(&mut self, source: usize, caller: u32)
         requires source { source < length self.old.sources }
         requires is_in { IsIn (source_at self.old source) caller }
-        ensures { self.new ≡ with_entry self.old source (record { caller = caller; edit = Edit.Leave; reply = Reply.Fine }) }
+        ensures entered { self.new ≡ with_entry self.old source (record { caller = caller; edit = Edit.Leave; reply = Reply.Fine }) }
+        ensures sound { IsSoundPort (known self.new) }
     {
         let source = &mut self.sources[source];
         source.leave(caller);
@@ -144,14 +138,14 @@ impl Plain {
         ensures within { result < length self.now.sources }
         ensures sound { IsSoundPort (known self.now) }
     {
-        self.leaves[leaf].source
+        self.bells.leaf(leaf).source
     }
 }
 
 impl Port for Plain {
     ghost use Rattle.std.specs.Prelude.{◌≡◌, length, refl};
     ghost use Rattle.std.proofs.Common.{◌∙◌};
-    ghost use Rattle.sig_hist.specs.OneThread.{known};
+    ghost use Rattle.sig_hist.specs.Plain.{known};
 
     type Told = Free;
 
@@ -165,7 +159,7 @@ impl Port for Plain {
     fn look(&mut self, leaf: usize) -> Version {
         let source = self.source_of(leaf);
         let version = version_of(self.source(source));
-        check(self.leaves.as_mut_slice(), source, version);
+        self.bells.check(source, version);
         version
     }
 
@@ -177,7 +171,7 @@ impl Port for Plain {
 
     #[tactic(auto, using(crate::proofs::Knowing::known_armed))]
     fn arm(&mut self, leaf: usize) {
-        self.leaves[leaf] = armed(self.leaves[leaf]);
+        self.bells.arm(leaf);
     }
 
     fn rest(&mut self, leaf: usize, at: u32, told: Free) -> Rested<Free> {
@@ -185,7 +179,7 @@ impl Port for Plain {
         if version.count != at || version.closed {
             return Rested::News { version, told };
         }
-        settle(self.leaves.as_mut_slice());
+        self.bells.settle();
         Rested::Waiting
     }
 
@@ -208,21 +202,6 @@ fn sources_of(alloc: Global, plans: Plans) -> Result<Vec<SourceState>, NoMemory>
     Ok(sources)
 }
 
-/// The leaves with the sources of these numbers, before a poll.
-fn leaves_of(alloc: Global, leaves: &[usize]) -> Result<Vec<PlainLeaf>, NoMemory>
-    ensures { IfOk result (λ all. all.items ≡ map leaf_of leaves.now) }
-{
-    let mut all = Vec::with_capacity(alloc, leaves.len())?;
-    'leaves: for source in leaves {
-        all.push(PlainLeaf {
-            source: *source,
-            condition: Condition::Idle,
-            arms: 0,
-        })?;
-    }
-    Ok(all)
-}
-
 /// What enters from a position to the end of a source's history.
 fn fetched(source: &SourceState, from: Option<u32>) -> Result<Fetched, NoMemory>
     requires { IfSome from (λ position. position ≤ length source.now.history) }
@@ -243,55 +222,4 @@ fn version_of(source: &SourceState) -> Version
         count: source.count(),
         closed: source.is_closed(),
     }
-}
-
-/// A look at a source has shown a version.
-fn check(leaves: &mut [PlainLeaf], source: usize, version: Version)
-    ensures { leaves.new ≡ map (leaf_checked source version) leaves.old }
-{
-    'leaves: for leaf in leaves {
-        *leaf = checked(*leaf, source, version);
-    }
-}
-
-/// The task of all leaves comes to rest.
-fn settle(leaves: &mut [PlainLeaf])
-    ensures { leaves.new ≡ map leaf_settled leaves.old }
-{
-    'leaves: for leaf in leaves {
-        *leaf = settled(*leaf);
-    }
-}
-
-fn checked(leaf: PlainLeaf, source: usize, version: Version) -> PlainLeaf
-    ensures { result ≡ leaf_checked source version leaf }
-{
-    if leaf.source != source {
-        return leaf;
-    }
-    let condition = match leaf.condition {
-        Condition::Armed | Condition::Checked(_) => Condition::Checked(version),
-        old => old,
-    };
-    PlainLeaf { condition, ..leaf }
-}
-
-fn armed(leaf: PlainLeaf) -> PlainLeaf
-    ensures { result ≡ leaf_armed leaf }
-{
-    PlainLeaf {
-        condition: Condition::Armed,
-        arms: leaf.arms.saturating_add(1),
-        ..leaf
-    }
-}
-
-fn settled(leaf: PlainLeaf) -> PlainLeaf
-    ensures { result ≡ leaf_settled leaf }
-{
-    let condition = match leaf.condition {
-        Condition::Checked(version) => Condition::Waiting(version),
-        _ => Condition::Idle,
-    };
-    PlainLeaf { condition, ..leaf }
 }

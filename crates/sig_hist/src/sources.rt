@@ -1,9 +1,8 @@
 ghost use Rattle.std.specs.Prelude.{◌≡◌, ◌<◌, ◌≤◌, ◌^◌, [], length, slice_get, false, IfSome, IfOk, OnOk, IfErr, OnErr};
 ghost use Rattle.sig_hist.specs.Changes.{reply_to};
-ghost use Rattle.sig_hist.specs.Counting.{MayEdit};
 ghost use Rattle.sig_hist.specs.Entering.{entering_from};
 ghost use Rattle.sig_hist.specs.Histories.{is_leave, is_closed};
-ghost use Rattle.sig_hist.specs.Sources.{IsPlan, IsSource, IsIn, IsRefusal, content_of, entered, is_among, writers_of};
+ghost use Rattle.sig_hist.specs.Sources.{IsPlan, IsSource, IsIn, IsRefusal, MayEdit, content_of, entered, is_among, writers_of};
 
 use crate::changes::execute;
 use crate::edits::{Edit, Entry, History, Reply};
@@ -84,6 +83,7 @@ impl SourceState {
         ensures reply { IfOk result (λ reply. reply ≡ reply_to (content_of self.old) self.old.plan.cap edit.now) }
         ensures entered { IfOk result (λ reply. self.new ≡ entered self.old (record { caller = caller; edit = edit.now; reply = reply })) }
         ensures source { OnOk result (IsSource self.new) }
+        ensures may { OnOk result (MayEdit self.old caller) }
         ensures refused { IfErr result (IsRefusal self.old caller) }
         ensures err { OnErr result (self.new ≡ self.old) }
     {

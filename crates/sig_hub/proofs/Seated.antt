@@ -6,7 +6,7 @@ use Rattle.sig_flag.specs.Layouts.{Layout, IsLeafOf}
 use Rattle.sig_flag.specs.Machines.{Machine, IsMade, IsNew, IsShape, layout_by}
 use Rattle.sig_flag.specs.declared.shape.FlagShape.{FlagShape}
 use Rattle.sig_hist.specs.Histories.{is_closed}
-use Rattle.sig_hist.specs.OneThread.{source_of}
+use Rattle.sig_hist.specs.Plain.{source_of}
 use Rattle.sig_hist.specs.Sources.{IsPlan, Source, writers_of}
 use Rattle.sig_hist.specs.declared.plans.SourcePlan.{SourcePlan}
 use Rattle.sig_hub.proofs.Started.{seats_from}

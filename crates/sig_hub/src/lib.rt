@@ -8,8 +8,6 @@ mod hub;
 mod passes;
 mod plans;
 mod starting;
-#[cfg(test)]
-mod tests;
 mod turns;
 
 pub use ending::{Closed, FinishError, Returned};

@@ -3,7 +3,7 @@ ghost use Rattle.std.specs.Prelude.{◌≡◌, ◌==◌, [], ◌+◌, ◌^◌, �
 ghost use Rattle.std.specs.List.{list_any};
 ghost use Rattle.std.specs.Vec.Iter.{into_iter_items};
 ghost use Rattle.sig_flag.specs.Layouts.{IsLeafOf};
-ghost use Rattle.sig_hist.specs.OneThread.{source_of};
+ghost use Rattle.sig_hist.specs.Plain.{source_of};
 ghost use Rattle.sig_hist.specs.Sources.{IsPlan};
 ghost use Rattle.sig_hub.specs.Hubs.{AreNew};
 ghost use Rattle.sig_hub.specs.Starting.{has_closed, AreWritten, AreDrafts, AreNewSeats, IsSeated};

@@ -12,6 +12,3 @@ pub use memory::{Bytes, Page};
 pub use reading::{ReadError, read_all};
 pub use traits::{Failed, Sink, Source};
 pub use writing::write_all;
-
-#[cfg(test)]
-mod tests;

@@ -1,3 +1,3 @@
 pub mod Tables
 pub mod Keys
-pub mod Turning
+pub mod laws

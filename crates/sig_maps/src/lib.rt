@@ -3,8 +3,6 @@
 
 mod key;
 mod lists;
-#[cfg(test)]
-mod tests;
 mod values;
 
 pub use key::KeyOf;

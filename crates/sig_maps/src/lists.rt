@@ -1,173 +1,137 @@
-ghost use Rattle.std.specs.Prelude.{◌≡◌, ◌≤◌, [], ◌∷◌, ◌++◌, length, IfOk, OnOk};
-ghost use Rattle.sig_diff.specs.Entries.{IsRising, keys_of, rank, values_of};
+ghost use Rattle.std.specs.Prelude.{◌≡◌, ◌≤◌, ℤ, List, [], ◌∷◌, ◌++◌, length, Bool, true, false, IfOk, OnOk};
+ghost use Rattle.sig_diff.specs.Entries.{IsRising, rank};
 ghost use Rattle.sig_diff.specs.MapDifferences.{MapIsLawful, map_applied};
-ghost use Rattle.sig_maps.specs.Tables.{entries_gives, keys_gives, values_gives};
-ghost use Rattle.sig_ops.specs.Turns.{Turns};
+ghost use Rattle.sig_maps.specs.Tables.{IsListing, list_gives};
+ghost use Rattle.sig_ops.specs.Leading.{LeadsTo};
 
 use sig_diff::{Diffs, Entries, Items, MapDiff, NoMemory, VecDiff, map_apply};
 use std::alloc::Global;
-use std::marker::Model;
+use std::marker::{Model, PhantomData};
 
 /// The keys of a map as a list, rising. Contracts see it as the map that it stands for.
+pub type KeysOp = ListOp<Keys>;
+
+/// The values of a map as a list, in the order of their keys. Contracts see it as the map that it stands for.
+pub type ValuesOp = ListOp<Values>;
+
+/// The entries of a map as a list of pairs, by rising keys. Contracts see it as the map that it stands for.
+pub type EntriesOp = ListOp<Pairs>;
+
+/// What a list shows of a map: an item for each entry, by rising keys.
+pub trait Listing {
+    type Item: Copy + Eq;
+
+    /// Whether the list changes where a value does.
+    const BY_VALUE: bool;
+
+    ghost BY_VALUE: { Bool };
+    /// What the list is, and what it shows of an entry.
+    ghost shown: { List (ℤ × ℤ) → List Self.Item };
+
+    ghost item: { ℤ → ℤ → Self.Item };
+
+    /// The list of a map.
+    fn shown(entries: &Entries<i64>) -> Result<Items<Self::Item>, NoMemory>
+        ensures { IfOk result (λ items. items ≡ shown entries.now) };
+
+    /// The item of an entry.
+    fn item(key: i64, value: i64) -> Self::Item
+        ensures { result ≡ item key value };
+
+    ghost listing: { IsListing shown item BY_VALUE };
+}
+
 #[derive(Debug, Drop)]
-pub struct KeysOp {
-    map: Entries<i64>,
-}
+pub struct Keys;
 
-impl Model for KeysOp {
-    ghost use Rattle.std.specs.Prelude.{ℤ, List};
-    ghost use Rattle.sig_diff.specs.Entries.{IsRising};
+impl Listing for Keys {
+    ghost use Rattle.sig_diff.specs.Entries.{keys_of};
+    ghost use Rattle.sig_maps.specs.laws.Tables.{keys_listing};
 
-    ghost Value = { List (ℤ × ℤ) };
+    type Item = i64;
 
-    ghost view = { λ op. op.map };
+    const BY_VALUE: bool = false;
 
-    ghost invariant = { λ op. IsRising op.map };
-}
+    ghost BY_VALUE = { false };
 
-impl KeysOp {
-    /// The keys, not yet started. It takes no memory.
-    pub fn new(alloc: Global) -> KeysOp
-        ensures { result ≡ [] }
-    {
-        KeysOp {
-            map: Entries::new(alloc),
-        }
-    }
+    ghost shown = { keys_of };
 
-    /// The keys of a map, for which it stands from then on.
-    pub fn start(&mut self, entries: &Entries<i64>) -> Result<Items<i64>, NoMemory>
-        ensures view { IfOk result (λ keys. keys ≡ keys_of entries.now) }
-        ensures state { OnOk result (self.new ≡ entries.now) }
-    {
-        self.map = entries.copy()?;
+    ghost item = { λ key value. key };
+
+    ghost listing = { keys_listing };
+
+    fn shown(entries: &Entries<i64>) -> Result<Items<i64>, NoMemory> {
         entries.keys()
     }
 
-    /// Adds what the keys give for a difference of the map, and stands for the map after it. After want of memory it is not to be
-    /// stepped again.
-    pub fn step(&mut self, diff: &MapDiff<i64>, given: &mut Diffs<i64>) -> Result<(), NoMemory>
-        requires lawful { MapIsLawful diff.now self.old }
-        requires short { length self.old ≤ 65536 }
-        ensures given { OnOk result (given.new ≡ given.old ++ keys_gives self.old diff.now) }
-        ensures state { OnOk result (self.new ≡ map_applied self.old diff.now) }
-        ensures law { Turns (keys_of self.old) (keys_gives self.old diff.now) (keys_of (map_applied self.old diff.now)) }
-    {
-        give_keys(&self.map, diff, given)?;
-        follow(&mut self.map, diff)
+    fn item(key: i64, _value: i64) -> i64 {
+        key
     }
 }
 
-/// Adds what the keys of the map give for a difference.
-fn give_keys(
-    map: &Entries<i64>,
-    diff: &MapDiff<i64>,
-    given: &mut Diffs<i64>,
-) -> Result<(), NoMemory>
-    requires { length map.now ≤ 65536 }
-    ensures { OnOk result (given.new ≡ given.old ++ keys_gives map.now diff.now) }
-{
-    match diff {
-        MapDiff::Replace { entries } => given.push(VecDiff::Replace {
-            values: entries.keys()?,
-        }),
-        MapDiff::Insert { key, .. } => given.push(VecDiff::InsertAt {
-            index: place(map, *key),
-            value: *key,
-        }),
-        MapDiff::Update { .. } => Ok(()),
-        MapDiff::Remove { key } => given.push(VecDiff::RemoveAt {
-            index: place(map, *key),
-        }),
-        MapDiff::Clear => given.push(VecDiff::Clear),
-    }
-}
-
-/// The values of a map as a list, in the order of their keys. Contracts see it as the map that it stands for.
 #[derive(Debug, Drop)]
-pub struct ValuesOp {
-    map: Entries<i64>,
-}
+pub struct Values;
 
-impl Model for ValuesOp {
-    ghost use Rattle.std.specs.Prelude.{ℤ, List};
-    ghost use Rattle.sig_diff.specs.Entries.{IsRising};
+impl Listing for Values {
+    ghost use Rattle.sig_diff.specs.Entries.{values_of};
+    ghost use Rattle.sig_maps.specs.laws.Tables.{values_listing};
 
-    ghost Value = { List (ℤ × ℤ) };
+    type Item = i64;
 
-    ghost view = { λ op. op.map };
+    const BY_VALUE: bool = true;
 
-    ghost invariant = { λ op. IsRising op.map };
-}
+    ghost BY_VALUE = { true };
 
-impl ValuesOp {
-    /// The values, not yet started. It takes no memory.
-    pub fn new(alloc: Global) -> ValuesOp
-        ensures { result ≡ [] }
-    {
-        ValuesOp {
-            map: Entries::new(alloc),
-        }
-    }
+    ghost shown = { values_of };
 
-    /// The values of a map, for which it stands from then on.
-    pub fn start(&mut self, entries: &Entries<i64>) -> Result<Items<i64>, NoMemory>
-        ensures view { IfOk result (λ values. values ≡ values_of entries.now) }
-        ensures state { OnOk result (self.new ≡ entries.now) }
-    {
-        self.map = entries.copy()?;
+    ghost item = { λ key value. value };
+
+    ghost listing = { values_listing };
+
+    fn shown(entries: &Entries<i64>) -> Result<Items<i64>, NoMemory> {
         entries.values()
     }
 
-    /// Adds what the values give for a difference of the map, and stands for the map after it. After want of memory it is not to be
-    /// stepped again.
-    pub fn step(&mut self, diff: &MapDiff<i64>, given: &mut Diffs<i64>) -> Result<(), NoMemory>
-        requires lawful { MapIsLawful diff.now self.old }
-        requires short { length self.old ≤ 65536 }
-        ensures given { OnOk result (given.new ≡ given.old ++ values_gives self.old diff.now) }
-        ensures state { OnOk result (self.new ≡ map_applied self.old diff.now) }
-        ensures law { Turns (values_of self.old) (values_gives self.old diff.now) (values_of (map_applied self.old diff.now)) }
-    {
-        give_values(&self.map, diff, given)?;
-        follow(&mut self.map, diff)
+    fn item(_key: i64, value: i64) -> i64 {
+        value
     }
 }
 
-/// Adds what the values of the map give for a difference.
-fn give_values(
-    map: &Entries<i64>,
-    diff: &MapDiff<i64>,
-    given: &mut Diffs<i64>,
-) -> Result<(), NoMemory>
-    requires { length map.now ≤ 65536 }
-    ensures { OnOk result (given.new ≡ given.old ++ values_gives map.now diff.now) }
-{
-    match diff {
-        MapDiff::Replace { entries } => given.push(VecDiff::Replace {
-            values: entries.values()?,
-        }),
-        MapDiff::Insert { key, value } => given.push(VecDiff::InsertAt {
-            index: place(map, *key),
-            value: *value,
-        }),
-        MapDiff::Update { key, value } => given.push(VecDiff::UpdateAt {
-            index: place(map, *key),
-            value: *value,
-        }),
-        MapDiff::Remove { key } => given.push(VecDiff::RemoveAt {
-            index: place(map, *key),
-        }),
-        MapDiff::Clear => given.push(VecDiff::Clear),
-    }
-}
-
-/// The entries of a map as a list of pairs, by rising keys. Contracts see it as the map that it stands for.
 #[derive(Debug, Drop)]
-pub struct EntriesOp {
-    map: Entries<i64>,
+pub struct Pairs;
+
+impl Listing for Pairs {
+    ghost use Rattle.sig_maps.specs.laws.Tables.{entries_listing};
+
+    type Item = (i64, i64);
+
+    const BY_VALUE: bool = true;
+
+    ghost BY_VALUE = { true };
+
+    ghost shown = { λ entries. entries };
+
+    ghost item = { λ key value. (key, value) };
+
+    ghost listing = { entries_listing };
+
+    fn shown(entries: &Entries<i64>) -> Result<Items<(i64, i64)>, NoMemory> {
+        entries.pairs()
+    }
+
+    fn item(key: i64, value: i64) -> (i64, i64) {
+        (key, value)
+    }
 }
 
-impl Model for EntriesOp {
+/// A map as a list. Contracts see it as the map that it stands for.
+#[derive(Debug, Drop)]
+pub struct ListOp<L> {
+    map: Entries<i64>,
+    listing: PhantomData<L>,
+}
+
+impl<L> Model for ListOp<L> {
     ghost use Rattle.std.specs.Prelude.{ℤ, List};
     ghost use Rattle.sig_diff.specs.Entries.{IsRising};
 
@@ -178,63 +142,62 @@ impl Model for EntriesOp {
     ghost invariant = { λ op. IsRising op.map };
 }
 
-impl EntriesOp {
-    /// The entries, not yet started. It takes no memory.
-    pub fn new(alloc: Global) -> EntriesOp
+impl<L: Listing> ListOp<L> {
+    /// The list, not yet started. It takes no memory.
+    pub fn new(alloc: Global) -> ListOp<L>
         ensures { result ≡ [] }
     {
-        EntriesOp {
+        ListOp {
             map: Entries::new(alloc),
+            listing: PhantomData,
         }
     }
 
-    /// The entries of a map, for which it stands from then on.
-    pub fn start(&mut self, entries: &Entries<i64>) -> Result<Items<(i64, i64)>, NoMemory>
-        ensures view { IfOk result (λ pairs. pairs ≡ entries.now) }
+    /// The list of a map, for which it stands from then on.
+    pub fn start(&mut self, entries: &Entries<i64>) -> Result<Items<L::Item>, NoMemory>
+        ensures view { IfOk result (λ items. items ≡ L.shown entries.now) }
         ensures state { OnOk result (self.new ≡ entries.now) }
     {
         self.map = entries.copy()?;
-        entries.pairs()
+        L::shown(entries)
     }
 
-    /// Adds what the entries give for a difference of the map, and stands for the map after it. After want of memory it is not to be
-    /// stepped again.
-    pub fn step(
-        &mut self,
-        diff: &MapDiff<i64>,
-        given: &mut Diffs<(i64, i64)>,
-    ) -> Result<(), NoMemory>
+    /// Adds what the list gives for a difference of the map, and stands for the map after it. After want of memory it
+    /// is not to be stepped again.
+    pub fn step(&mut self, diff: &MapDiff<i64>, given: &mut Diffs<L::Item>) -> Result<(), NoMemory>
         requires lawful { MapIsLawful diff.now self.old }
         requires short { length self.old ≤ 65536 }
-        ensures given { OnOk result (given.new ≡ given.old ++ entries_gives self.old diff.now) }
+        ensures given { OnOk result (given.new ≡ given.old ++ list_gives L.shown L.item L.BY_VALUE self.old diff.now) }
         ensures state { OnOk result (self.new ≡ map_applied self.old diff.now) }
-        ensures law { Turns self.old (entries_gives self.old diff.now) (map_applied self.old diff.now) }
+        ensures law { LeadsTo (L.shown self.old) (list_gives L.shown L.item L.BY_VALUE self.old diff.now)
+            (L.shown (map_applied self.old diff.now)) }
     {
-        give_entries(&self.map, diff, given)?;
+        give::<L>(&self.map, diff, given)?;
         follow(&mut self.map, diff)
     }
 }
 
-/// Adds what the entries of the map give for a difference.
-fn give_entries(
+/// Adds what a list of the map gives for a difference.
+fn give<L: Listing>(
     map: &Entries<i64>,
     diff: &MapDiff<i64>,
-    given: &mut Diffs<(i64, i64)>,
+    given: &mut Diffs<L::Item>,
 ) -> Result<(), NoMemory>
     requires { length map.now ≤ 65536 }
-    ensures { OnOk result (given.new ≡ given.old ++ entries_gives map.now diff.now) }
+    ensures { OnOk result (given.new ≡ given.old ++ list_gives L.shown L.item L.BY_VALUE map.now diff.now) }
 {
     match diff {
         MapDiff::Replace { entries } => given.push(VecDiff::Replace {
-            values: entries.pairs()?,
+            values: L::shown(entries)?,
         }),
         MapDiff::Insert { key, value } => given.push(VecDiff::InsertAt {
             index: place(map, *key),
-            value: (*key, *value),
+            value: L::item(*key, *value),
         }),
+        MapDiff::Update { .. } if !L::BY_VALUE => Ok(()),
         MapDiff::Update { key, value } => given.push(VecDiff::UpdateAt {
             index: place(map, *key),
-            value: (*key, *value),
+            value: L::item(*key, *value),
         }),
         MapDiff::Remove { key } => given.push(VecDiff::RemoveAt {
             index: place(map, *key),

@@ -1,7 +1,8 @@
 ghost use Rattle.std.specs.Prelude.{◌≡◌, [], ◌∷◌, ◌++◌, ℤ, List, IfOk, OnOk};
 ghost use Rattle.sig_diff.specs.Entries.{IsRising, values_mapped};
 ghost use Rattle.sig_diff.specs.MapDifferences.{MapIsLawful, map_applied};
-ghost use Rattle.sig_maps.specs.Tables.{MapTurns, map_value_gives};
+ghost use Rattle.sig_maps.specs.Tables.{map_value_gives};
+ghost use Rattle.sig_ops.specs.Leading.{MapLeadsTo};
 
 use sig_diff::{Entries, MapDiff, MapDiffs, Mapper, NoMemory};
 use std::alloc::Global;
@@ -44,7 +45,7 @@ impl<M: Mapper<i64, i64>> MapValue<M> {
         ensures given { OnOk result (given.new ≡ given.old ++ map_value_gives (M.maps self.old) diff.now) }
         ensures state { self.new ≡ self.old }
         ensures law { (entries : List (ℤ × ℤ)) → IsRising entries → MapIsLawful diff.now entries
-            → MapTurns (values_mapped (M.maps self.old) entries) (map_value_gives (M.maps self.old) diff.now) (values_mapped (M.maps self.old) (map_applied entries diff.now)) }
+            → MapLeadsTo (values_mapped (M.maps self.old) entries) (map_value_gives (M.maps self.old) diff.now) (values_mapped (M.maps self.old) (map_applied entries diff.now)) }
     {
         given.push(mapped(&self.mapper, diff)?)
     }

@@ -22,9 +22,9 @@ use Rattle.sig_diff.specs.declared.differences.VecDiff.TheVariants.{Replace, Ins
 use Rattle.sig_diff.proofs.Filtered.{remove_last}
 use Rattle.sig_ops.specs.declared.enumerating.TagPlace.{TagPlace}
 use Rattle.sig_ops.specs.Enumerating.{Enumeration, enumerate_gives, enumeration_next, enumeration_of, has_tag, made, place_of, tag_at, tagged_from}
-use Rattle.sig_ops.specs.EnumerateTurns.{EnumerateStep, both_lawful, distinct_next, element_at, enumeration_stands, given_out_next, no_longer, not_given_out}
+use Rattle.sig_ops.specs.laws.Enumerating.{EnumerateStep, both_lawful, distinct_next, element_at, enumeration_stands, given_out_next, no_longer, not_given_out}
 use Rattle.sig_ops.specs.TagIndex.{IsIndexed, entry_of, entry_shifted, indexed, is_elsewhere, numbered, reindexed, shifted}
-use Rattle.sig_ops.specs.TagPlaces.{no_place_before, others, place_from, place_insert_new, place_insert_other, place_moved, place_remove, place_set, place_within, same_within, shifted_end}
+use Rattle.sig_ops.specs.laws.TagPlaces.{no_place_before, others, place_from, place_insert_new, place_insert_other, place_moved, place_remove, place_set, place_within, same_within, shifted_end}
 
 -- a pass by a closure that stays as it is and captures
 module _ {X F : Type 0} (calls : F → X → Bool → F → X → Type 0) (test : X → Bool) (change : X → X) (f : F)
@@ -34,11 +34,11 @@ module _ {X F : Type 0} (calls : F → X → Bool → F → X → Type 0) (test 
   stays_first false x xs = refl
 
   pub retained : (xs ys : List X) → RetainsInTurn calls f xs ys → ys ≡ map change (filter test xs)
-  retained [] ys turns = turns
-  retained (x ∷ xs) ys turns =
-      let one = answers x turns.0 turns.1 turns.2 turns.3 in
-      let rest = retained xs turns.4 (subst (λ g. RetainsInTurn calls g xs turns.4) one.1 turns.5) in
-      turns.6 ∙ (λ i. cond (one.0 i) (one.2 i ∷ rest i) (rest i)) ∙ stays_first (test x) x (filter test xs)
+  retained [] ys leads = leads
+  retained (x ∷ xs) ys leads =
+      let one = answers x leads.0 leads.1 leads.2 leads.3 in
+      let rest = retained xs leads.4 (subst (λ g. RetainsInTurn calls g xs leads.4) one.1 leads.5) in
+      leads.6 ∙ (λ i. cond (one.0 i) (one.2 i ∷ rest i) (rest i)) ∙ stays_first (test x) x (filter test xs)
 
 -- ---- an index by the places of tags
 

@@ -20,7 +20,7 @@ module _ {Op T : Type 0} (next : Op → VecDiff T → Op) where
   all_given gives op (diff ∷ diffs) = gives op diff ++ all_given gives (next op diff) diffs
 
 -- from an operator on a list to the operator after differences of it: that one stands for the list after them, and what was given
--- turns the one view into the other; where no list on the way has more than `most` items, no view on the way has
+-- leads from the one view to the other; where no list on the way has more than `most` items, no view on the way has
 pub record Follows {Op T U : Type 0} (stands_for : Op → List T → Type 0) (view : Op → List T → List U) (op : Op) (xs : List T) (diffs : List (VecDiff T)) (after : Op) (given : List (VecDiff U)) : Type 0 where
   pub stands : stands_for after (replayed xs diffs)
   pub lawful : AreLawful (view op xs) given

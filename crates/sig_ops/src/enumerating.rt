@@ -2,7 +2,7 @@ ghost use Rattle.std.specs.Prelude.{◌≡◌, ◌++◌, ◌+◌, ◌<◌, ◌�
 ghost use Rattle.std.specs.Vec.{vec_len, vec_capacity};
 ghost use Rattle.sig_diff.specs.Differences.{IsLawful, applied};
 ghost use Rattle.sig_ops.specs.Enumerating.{enumerate_gives, enumeration_next, enumeration_of, made, place_of, tagged_from};
-ghost use Rattle.sig_ops.specs.EnumerateTurns.{EnumerateStep};
+ghost use Rattle.sig_ops.specs.laws.Enumerating.{EnumerateStep};
 ghost use Rattle.sig_ops.specs.TagIndex.{entry_shifted, is_elsewhere, numbered, reindexed, shifted};
 
 use crate::operators::VecOp;
@@ -100,7 +100,7 @@ impl EnumerateOp {
 
 impl VecOp for EnumerateOp {
     ghost use Rattle.sig_ops.specs.Enumerating.{IsEnumeration, enumerate_gives, enumeration_next, enumeration_of};
-    ghost use Rattle.sig_ops.specs.EnumerateTurns.{EnumerateStep, enumerate_turns, enumeration_stands, stands_next, may_step, no_longer, few_tags};
+    ghost use Rattle.sig_ops.specs.laws.Enumerating.{EnumerateStep, enumerate_leads, enumeration_stands, stands_next, may_step, no_longer, few_tags};
     ghost use Rattle.std.proofs.Common.{rules};
 
     type In = i64;
@@ -123,7 +123,7 @@ impl VecOp for EnumerateOp {
 
     ghost next = { λ op diff. enumeration_next op diff };
 
-    ghost turns = { λ op xs diff stands lawful. enumerate_turns op xs diff stands lawful };
+    ghost leads = { λ op xs diff stands lawful. enumerate_leads op xs diff stands lawful };
 
     ghost stands_at_start = { λ op xs can. enumeration_stands xs };
 

@@ -16,7 +16,7 @@ pub struct FilterOp<T, P> {
 }
 
 impl<T, P> Model for FilterOp<T, P> {
-    ghost use Rattle.sig_ops.specs.Filters.{Filter};
+    ghost use Rattle.sig_ops.specs.Filtering.{Filter};
 
     ghost Value = { Filter P T };
 
@@ -37,12 +37,12 @@ impl<T, P> FilterOp<T, P> {
 }
 
 impl<T: Copy + Eq, P: Tester<T>> VecOp for FilterOp<T, P> {
-    ghost use Rattle.std.specs.Prelude.{◌≡◌, length, filter, refl};
+    ghost use Rattle.std.specs.Prelude.{◌≡◌, filter, refl};
     ghost use Rattle.std.proofs.Common.{rules, ap};
-    ghost use Rattle.sig_diff.specs.Differences.{IsLawful, applied};
-    ghost use Rattle.sig_ops.specs.Filters.{filter_next};
+    ghost use Rattle.sig_diff.specs.Differences.{applied};
+    ghost use Rattle.sig_ops.specs.Filtering.{FilterStep, filter_next};
     ghost use Rattle.sig_ops.specs.Tables.{filter_gives};
-    ghost use Rattle.sig_ops.specs.FilterTurns.{filter_turns, filter_is_short};
+    ghost use Rattle.sig_ops.specs.laws.Filtering.{filter_leads, filter_is_short, filter_may_step};
 
     type In = T;
 
@@ -58,19 +58,20 @@ impl<T: Copy + Eq, P: Tester<T>> VecOp for FilterOp<T, P> {
 
     ghost started = { λ op xs. record { tester = op.tester; items = xs } };
 
-    ghost can_step = { λ op diff. P.can_call op.tester × IsLawful diff (length op.items) };
+    ghost can_step = { λ op diff. P.can_call op.tester × FilterStep op diff };
 
     ghost gives = { λ op diff. filter_gives (P.passes op.tester) op.items diff };
 
     ghost next = { λ op diff. filter_next op diff };
 
-    ghost turns = { λ op xs diff stands lawful. rw stands.1 (filter_turns (P.passes op.tester) xs diff lawful) };
+    ghost leads = { λ op xs diff stands lawful. rw stands.1 (filter_leads (P.passes op.tester) xs diff lawful) };
 
     ghost stands_at_start = { λ op xs can. (can, refl) };
 
     ghost stands_after = { λ op xs diff stands lawful. (stands.0, ap (λ items. applied items diff) stands.1) };
 
-    ghost steps_where_lawful = { λ op xs diff stands lawful short short_after few. (stands.0, rw stands.1 lawful) };
+    ghost steps_where_lawful = { λ op xs diff stands lawful short short_after few.
+        (stands.0, filter_may_step op xs diff stands.1 lawful short short_after) };
 
     ghost view_is_short = { λ op xs stands. filter_is_short (P.passes op.tester) xs };
 

@@ -7,11 +7,7 @@ mod filtering;
 mod following;
 mod mapping;
 mod operators;
-#[cfg(test)]
-mod signal_tests;
 mod signals;
-#[cfg(test)]
-mod tests;
 
 pub use called::{Called, Named};
 pub use enumerating::EnumerateOp;

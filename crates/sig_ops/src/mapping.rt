@@ -34,7 +34,7 @@ impl<T, U, M> MapOp<T, U, M> {
 impl<T: Copy + Eq, U: Copy + Eq, M: Mapper<T, U>> VecOp for MapOp<T, U, M> {
     ghost use Rattle.std.specs.Prelude.{map};
     ghost use Rattle.sig_ops.specs.Tables.{map_gives};
-    ghost use Rattle.sig_ops.specs.MapTurns.{map_turns, map_is_short};
+    ghost use Rattle.sig_ops.specs.laws.Mapping.{map_leads, map_is_short};
     ghost use Rattle.std.proofs.Common.{rules};
 
     type In = T;
@@ -57,7 +57,7 @@ impl<T: Copy + Eq, U: Copy + Eq, M: Mapper<T, U>> VecOp for MapOp<T, U, M> {
 
     ghost next = { λ op diff. op };
 
-    ghost turns = { λ op xs diff stands lawful. map_turns (M.maps op) xs diff lawful };
+    ghost leads = { λ op xs diff stands lawful. map_leads (M.maps op) xs diff lawful };
 
     ghost stands_at_start = { λ op xs can. can };
 

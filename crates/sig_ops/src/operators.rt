@@ -1,14 +1,14 @@
 ghost use Rattle.std.specs.Prelude.{◌≡◌, ◌++◌, ◌+◌, ◌^◌, ◌<◌, ◌≤◌, ℕ, List, length, IfOk, OnOk};
 ghost use Rattle.sig_diff.specs.declared.differences.VecDiff.{VecDiff};
 ghost use Rattle.sig_diff.specs.Differences.{IsLawful, applied};
-ghost use Rattle.sig_ops.specs.Turns.{Turns};
+ghost use Rattle.sig_ops.specs.Leading.{LeadsTo};
 
 use sig_diff::{Diffs, Items, NoMemory, VecDiff};
 
 /// A view of a list that follows it by differences.
 ///
-/// Its law: where the operator stands for a list that takes a difference, what a step gives turns the view of the list into the view
-/// of the list after the difference. After want of memory an operator is not to be stepped again.
+/// Its law: where the operator stands for a list that takes a difference, what a step gives leads from the view of the list to the
+/// view of the list after the difference. After want of memory an operator is not to be stepped again.
 pub trait VecOp {
     type In: Copy + Eq;
 
@@ -48,8 +48,8 @@ pub trait VecOp {
         ensures given { OnOk result (given.new ≡ given.old ++ gives self.old diff.now) }
         ensures state { OnOk result (self.new ≡ next self.old diff.now) };
 
-    ghost turns: { (op : Self) (xs : List Self.In) (diff : VecDiff Self.In) → stands_for op xs → IsLawful diff (length xs)
-        → Turns (view op xs) (gives op diff) (view (next op diff) (applied xs diff)) };
+    ghost leads: { (op : Self) (xs : List Self.In) (diff : VecDiff Self.In) → stands_for op xs → IsLawful diff (length xs)
+        → LeadsTo (view op xs) (gives op diff) (view (next op diff) (applied xs diff)) };
 
     ghost stands_at_start: { (op : Self) (xs : List Self.In) → can_start op → stands_for (started op xs) xs };
 

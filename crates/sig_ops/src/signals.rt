@@ -1,4 +1,4 @@
-ghost use Rattle.std.specs.Prelude.{◌≡◌, ◌≤◌, [], pos, length, All, FitsSigned, IfOk, OnOk};
+ghost use Rattle.std.specs.Prelude.{◌≡◌, ◌≤◌, ℤ, List, [], pos, length, All, FitsSigned, IfOk, OnOk};
 ghost use Rattle.std.specs.Int.{w64};
 ghost use Rattle.sig_diff.specs.Differences.{IsLawful, applied};
 ghost use Rattle.sig_diff.specs.Numbers.{clamped, total};
@@ -49,6 +49,8 @@ impl LenOp {
         requires short { SizesStayWithin 65536 self.old diffs.now }
         ensures value { result ≡ given (pos self.old) (pos (all_resized self.old diffs.now)) }
         ensures state { self.new ≡ all_resized self.old diffs.now }
+        ensures law { (xs : List ℤ) → self.old ≡ length xs → AreLawful xs diffs.now
+            → self.new ≡ length (replayed xs diffs.now) }
     {
         let last = self.len;
         let mut len = last;

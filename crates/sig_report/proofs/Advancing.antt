@@ -3,12 +3,12 @@ use Rattle.std.proofs.Common.{◌≡◌, ◌∙◌, ℕ, zero, suc, ◌+◌, ◌
 use Rattle.std.proofs.lemmas.Bool.{cases_lt}
 use Rattle.std.proofs.lemmas.List.{append-nil, ext_get_or, get_or_append_left, get_or_past, length-append}
 use Rattle.sig_expr.specs.Trees.{ViewTree}
-use Rattle.sig_hist.specs.OneThread.{no_source}
+use Rattle.sig_hist.specs.Plain.{no_source}
 use Rattle.sig_hist.specs.Sources.{Source}
 use Rattle.sig_report.proofs.Numbering.{LooksBelow}
 use Rattle.sig_report.specs.Playing.{advanced}
-use Rattle.sig_view.specs.Flow.{state_at}
-use Rattle.sig_view.specs.SoundRows.{AreWithin, GoOn, contents_at, is_awaited, leaf_source}
+use Rattle.sig_hist.specs.Ways.{state_at, AreWithin, GoOn, contents_at, leaf_source}
+use Rattle.sig_rows.specs.SoundRows.{is_awaited}
 
 -- where a leaf goes from a position: to the end of its source's history if it is awaited
 abbrev goes_to : List Source → ℕ → ℕ → Bool → ℕ

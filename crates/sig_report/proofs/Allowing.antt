@@ -4,7 +4,7 @@ use Rattle.std.proofs.lemmas.Bool.{cases_lt, eq-eqb, eqb-true, ne_eqb}
 use Rattle.std.proofs.lemmas.List.{append-nil, get_or_past}
 use Rattle.std.proofs.lemmas.List.Elements.{All-head, All-tail}
 use Rattle.sig_hist.specs.Changes.{IsInOrder}
-use Rattle.sig_hist.specs.OneThread.{no_source}
+use Rattle.sig_hist.specs.Plain.{no_source}
 use Rattle.sig_hist.specs.Sources.{allowed, is_among, writers_of}
 use Rattle.sig_hist.specs.declared.plans.Allowance.{Allowance}
 use Rattle.sig_hist.specs.declared.plans.SourcePlan.{SourcePlan}

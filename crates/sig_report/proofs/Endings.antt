@@ -3,10 +3,11 @@ use Rattle.std.proofs.Common.{◌≡◌, ◌≢◌, ◌∙◌, ℕ, zero, suc, �
 use Rattle.std.proofs.lemmas.List.{get_or-set_same, get_or-set_other}
 use Rattle.sig_expr.specs.Leaves.{numbered}
 use Rattle.sig_expr.specs.Shapes.{view_tree}
-use Rattle.sig_hist.specs.OneThread.{no_source}
+use Rattle.sig_hist.specs.Plain.{no_source}
 use Rattle.sig_hist.specs.Sources.{Source}
 use Rattle.sig_report.proofs.Events.{GoesOn, IsPlay, writer_goes}
-use Rattle.sig_report.proofs.Growing.{Grows, grows_not}
+use Rattle.sig_hist.specs.Ways.{Grows}
+use Rattle.sig_rows.proofs.Growing.{grows_not}
 use Rattle.sig_report.proofs.Schedules.{AllSeen, GrowsTo, goes_further, goes_not, polled_at, seen_polled}
 use Rattle.sig_report.proofs.Views.{AllClosed, no_shares, view_ends}
 use Rattle.sig_report.specs.Lawful.{all_views, no_writer, sources_of}
@@ -16,7 +17,7 @@ use Rattle.sig_script.specs.Built.{unbuilt}
 use Rattle.sig_script.specs.declared.types.Script.{Script}
 use Rattle.sig_script.specs.declared.types.ViewDef.{ViewDef}
 use Rattle.sig_script.specs.declared.types.WriterDef.{WriterDef}
-use Rattle.sig_view.specs.SoundRows.{are_complete}
+use Rattle.sig_rows.specs.SoundRows.{are_complete}
 
 raised : (done : List ℕ) (writer other : ℕ) → get_or done other 0 ≤ get_or (slice_set done writer (get_or done writer 0 + 1)) other 0
 raised [] writer other = omega arith

@@ -5,20 +5,21 @@ use Rattle.std.proofs.lemmas.Bool.Decides.{nat_tests}
 use Rattle.std.proofs.lemmas.List.{get_or-set_same, get_or-set_other, length-map, length-set, length_push, set_past}
 use Rattle.std.proofs.lemmas.Option.{slice_get_past, slice_get_within}
 use Rattle.std.specs.Option.{option_to_list}
-use Rattle.sig_hist.specs.OneThread.{no_source}
+use Rattle.sig_hist.specs.Plain.{no_source}
 use Rattle.sig_hist.specs.Sources.{IsIn, Source, is_among, writers_of}
 use Rattle.sig_hist.specs.declared.edits.Edit.{Edit}
 use Rattle.sig_hist.specs.declared.edits.Edit.TheVariants.{Leave}
 use Rattle.sig_report.proofs.Allowing.{among_at, no_edits_past, number_within, stranger}
-use Rattle.sig_report.proofs.Growing.{Grows, grows_not}
+use Rattle.sig_hist.specs.Ways.{Grows}
+use Rattle.sig_rows.proofs.Growing.{grows_not}
 use Rattle.sig_report.proofs.Writers.{Goes, IsMade, enters, events_on, goes_growing, has_not_left, made_next, stays}
 use Rattle.sig_script.specs.Leaving.{has_no_leaves}
 use Rattle.sig_report.specs.Playing.{Played, Watched, by_writer, edited_by, edits_of, left_by, shared_body, shared_row, with_edit, written_by}
 use Rattle.sig_script.specs.Rooms.{edits_on}
 use Rattle.sig_script.specs.declared.types.Script.{Script}
-use Rattle.sig_view.specs.declared.rows.Body.{Body}
-use Rattle.sig_view.specs.declared.rows.Body.TheVariants as body
-use Rattle.sig_view.specs.declared.rows.Row.{Row}
+use Rattle.sig_rows.specs.declared.rows.Body.{Body}
+use Rattle.sig_rows.specs.declared.rows.Body.TheVariants as body
+use Rattle.sig_rows.specs.declared.rows.Row.{Row}
 
 -- ---- lists
 

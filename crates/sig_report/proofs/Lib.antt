@@ -1,6 +1,3 @@
-pub mod RowSteps
-pub mod Growing
-pub mod Alike
 pub mod Among
 pub mod Numbering
 pub mod Advancing

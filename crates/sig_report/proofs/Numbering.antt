@@ -9,10 +9,11 @@ use Rattle.sig_diff.specs.declared.contents.Content.{Content}
 use Rattle.sig_expr.proofs.Awaiting.{IsAmong, none, kept, left_out, agree_among, length_each_sig, length_each_vec, sig_among, sig_same, vec_among}
 use Rattle.sig_expr.specs.Awaited.{Agree, all_of, awaits, each_sig_awaits, each_vec_awaits, sig_awaits, vec_awaits}
 use Rattle.sig_expr.specs.Leaves.{sig_leaves, vec_leaves, number_sig, number_vec, number_sigs, number_vecs, numbered}
-use Rattle.sig_expr.specs.Scratch.{value_of}
+use Rattle.sig_expr.specs.Evaluation.{value_of}
 use Rattle.sig_expr.specs.Trees.{SigTree, cell, mapped_signal, deduped, switched, length_of, total_of, at_key, VecTree, vector, mapped, filtered, filtered_by, mapped_by, sorted, joined, flattened, picked, keys_in, values_in, SigTrees, no_signals, more_signals, VecTrees, no_lists, more_lists, ViewTree, signal_view, vector_view, map_view, entries_view, tagged_view}
 use Rattle.sig_hist.specs.Sources.{is_among}
-use Rattle.sig_view.proofs.Numbering.{sig_numbers, vec_numbers}
+use Rattle.sig_rows.proofs.Numbering.{sig_numbers, vec_numbers}
+use Rattle.sig_rows.specs.SoundRows.{nothing_shown}
 
 -- ---- what isn't among the leaves
 
@@ -135,3 +136,11 @@ numbered_looks (vector_view e) s t n same = vec_alike s t n same e 0
 numbered_looks (map_view m) s t n same = refl
 numbered_looks (entries_view m) s t n same = refl
 numbered_looks (tagged_view e) s t n same = vec_alike s t n same e 0
+
+-- nothing is shown, whichever numbers the leaves have
+pub nothing_numbered : {L : Type 0} (view : ViewTree L) → nothing_shown (numbered view) ≡ nothing_shown view
+nothing_numbered (signal_view e) = refl
+nothing_numbered (vector_view e) = refl
+nothing_numbered (map_view m) = refl
+nothing_numbered (entries_view m) = refl
+nothing_numbered (tagged_view e) = refl

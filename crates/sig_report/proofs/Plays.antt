@@ -2,10 +2,14 @@
 use Rattle.std.proofs.Common.{◌≡◌, ◌∙◌, ℕ, ◌+◌, ◌<◌, ◌≤◌, ◌==◌, nat_lt, List, [], ◌∷◌, ◌++◌, length, take, map, get_or, Bool, true, false, None, refl, sym, ap, subst, arith}
 use Rattle.std.proofs.lemmas.Bool.{eq-eqb, lt-ltb}
 use Rattle.std.proofs.lemmas.List.{length-append, length-map, length_push, take_all}
+use Rattle.sig_expr.specs.Leaves.{numbered}
+use Rattle.sig_expr.specs.Shapes.{view_tree}
+use Rattle.sig_expr.specs.Trees.{ViewTree}
 use Rattle.sig_expr.specs.declared.expressions.VecExpr.{VecExpr}
 use Rattle.sig_expr.specs.declared.expressions.View.{View}
+use Rattle.sig_expr.specs.declared.shown.Shown.{Shown}
 use Rattle.sig_hist.specs.Histories.{ends_with_leave, has_left, is_closed, is_leave, own_entries}
-use Rattle.sig_hist.specs.OneThread.{no_source}
+use Rattle.sig_hist.specs.Plain.{no_source}
 use Rattle.sig_hist.specs.Sources.{Source, is_among, writers_of}
 use Rattle.sig_hist.specs.declared.edits.Edit.{Edit}
 use Rattle.sig_hist.specs.declared.edits.Edit.TheVariants.{Leave}
@@ -15,12 +19,13 @@ use Rattle.sig_report.proofs.Allowing.{length_plans_of, plan_in_order, writer_wi
 use Rattle.sig_report.proofs.Among.{all_among}
 use Rattle.sig_report.proofs.Endings.{AllEnded, Writes, all_done, all_ended, all_write, ended_from, written_from}
 use Rattle.sig_report.proofs.Events.{IsPlay, map_at, source_at}
+use Rattle.sig_report.proofs.Numbering.{nothing_numbered}
 use Rattle.sig_report.proofs.Polls.{unseen}
 use Rattle.sig_report.proofs.Reports.{each_source, each_view, source_names_are, source_report, sources_are, view_names_are, view_report}
 use Rattle.sig_report.proofs.Schedules.{AllSeen, schedule_goes, schedule_seen, seen_later}
 use Rattle.sig_report.proofs.Views.{AllInOrder, SeesView, no_shares, view_sound, views_are}
 use Rattle.sig_report.proofs.Writers.{edits_on_append, events_on, own_edits, plan_at}
-use Rattle.sig_report.specs.Lawful.{EachPair, IsLawfulSource, IsLawfulView, Lawful, all_views, edits_by, no_writer, sources_in}
+use Rattle.sig_report.specs.Lawful.{EachPair, IsLawfulSource, IsLawfulView, Lawful, all_views, edits_by, no_writer, sources_in, sources_of}
 use Rattle.sig_script.specs.Leaving.{has_no_leaves}
 use Rattle.sig_report.specs.Playing.{Played, Watched, by_share, edits_of, in_turn, opened, play, played, scheduled, source_names, source_reports, times, view_at, view_names, watched_at}
 use Rattle.sig_report.specs.declared.report.SourceReport.{SourceReport}
@@ -33,7 +38,8 @@ use Rattle.sig_script.specs.declared.types.ShareDef.{ShareDef}
 use Rattle.sig_script.specs.declared.types.SourceDef.{SourceDef}
 use Rattle.sig_script.specs.declared.types.ViewDef.{ViewDef}
 use Rattle.sig_script.specs.declared.types.WriterDef.{WriterDef}
-use Rattle.sig_view.specs.SoundRows.{are_complete}
+use Rattle.sig_rows.proofs.RowsShow.{show_the_end}
+use Rattle.sig_rows.specs.SoundRows.{AreSound, are_complete, replay_of, without_tags}
 
 -- ---- who has left
 
@@ -72,6 +78,22 @@ opened_play script unshared = record {
         own = λ writer among. rw (none_had script writer) refl;
       });
 }
+
+-- ---- a view at the end
+
+-- sound rows that have ended show the view from scratch
+view_lawful : (name : List ℕ) (shown : View) (sources : List Source) (watched : Watched) → AreSound (numbered (view_tree shown)) (sources_of sources shown) watched.rows → are_complete watched.rows ≡ true →
+    IsLawfulView sources shown (view_report name shown watched)
+view_lawful name shown sources watched sound complete =
+    let tree : ViewTree ℕ = view_tree shown in
+    let at_end = show_the_end (numbered tree) (sources_of sources shown) watched.rows sound complete in
+    record {
+      kind = refl;
+      sound = sound;
+      complete = complete;
+      last = refl;
+      shows = ap (λ (nothing : Shown). without_tags (replay_of nothing watched.rows)) (sym (nothing_numbered tree)) ∙ at_end.shows;
+    }
 
 module _ (script : Script) (all_built : unbuilt script ≡ None) (no_leaves : has_no_leaves script ≡ true) where
   opened_seen : (final : List Source) → AllInOrder final → AllSeen script all_built final (opened script)
@@ -149,12 +171,8 @@ module _ (script : Script) (all_built : unbuilt script ≡ None) (no_leaves : ha
     lawful_view number name within =
         let same : 0 + number ≡ number = omega arith in
         let complete : are_complete (watched_at (played script) number).rows ≡ true = rw same at (over.ended number (rw views_within within)) in
-        record {
-          kind = refl;
-          sound = view_sound (view_at script number) (played script).sources written_out.sources (watched_at (played script) number) (over.last.seen.sees number within) complete;
-          complete = complete;
-          last = refl;
-        }
+        view_lawful name (view_at script number) written_out.sources (watched_at (played script) number)
+        (view_sound (view_at script number) (played script).sources written_out.sources (watched_at (played script) number) (over.last.seen.sees number within) complete) complete
 
     length_source_names : length (source_names script) ≡ length written_out.sources
     length_source_names =
@@ -185,14 +203,20 @@ module _ (script : Script) (all_built : unbuilt script ≡ None) (no_leaves : ha
         subst (λ (reported : List SourceReport). EachPair LawfulAt 0 (sources_in (plans_of script) reported) reported) (sym reported_are)
         (subst (λ (sources : List Source). EachPair LawfulAt 0 sources (source_reports (source_names script) written_out.sources)) (sym listed_are) each)
 
-    abbrev ViewsLawful : List Source → Type 0
+    abbrev pub ViewsLawful : List Source → Type 0
     ViewsLawful sources = EachPair (λ number shown reported. IsLawfulView sources shown reported) 0 (all_views script) (play script).views
 
+    lawful_at_last : ViewsLawful written_out.sources
+    lawful_at_last =
+        each_view (λ number shown reported. IsLawfulView written_out.sources shown reported) 0 (view_names script) (all_views script) (played script).views (View.Vector (VecExpr.Vector 0)) (record { at = []; rows = [] })
+        length_view_names over.last.seen.views (λ place name within. lawful_view place name within)
+
+    -- each view is lawful for the sources at the end of the play
+    pub views_at_last : ViewsLawful (played script).sources
+    views_at_last = subst ViewsLawful (sym over.last.sources) lawful_at_last
+
     views_lawful : ViewsLawful (sources_in (plans_of script) (play script).sources)
-    views_lawful =
-        subst ViewsLawful (sym (ap (sources_in (plans_of script)) reported_are ∙ listed_are))
-        (each_view (λ number shown reported. IsLawfulView written_out.sources shown reported) 0 (view_names script) (all_views script) (played script).views (View.Vector (VecExpr.Vector 0)) (record { at = []; rows = [] })
-        length_view_names over.last.seen.views (λ place name within. lawful_view place name within))
+    views_lawful = subst ViewsLawful (sym (ap (sources_in (plans_of script)) reported_are ∙ listed_are)) lawful_at_last
 
     pub play_is_lawful : Lawful script (play script)
     play_is_lawful = record {

@@ -1,81 +1,30 @@
 -- Polls of a view: its rows are sound for sources that go on growing.
-use Rattle.std.proofs.Common.{◌≡◌, ◌∙◌, ℕ, ◌==◌, List, [], ◌∷◌, ◌++◌, length, map, slice_index, Bool, true, false, ◌&&◌, nat_eq, if◌then◌else◌, Option, None, Some, ◌+◌, refl, sym, ap, subst, arith}
+use Rattle.std.proofs.Common.{◌≡◌, ◌∙◌, ℕ, ◌==◌, List, [], ◌∷◌, ◌++◌, length, map, slice_index, Bool, true, false, ◌&&◌, nat_eq, if◌then◌else◌, refl, sym, ap, subst, arith}
 use Rattle.std.proofs.lemmas.Bool.{and_from, and_parts, eq-eqb, eqb-true}
 use Rattle.std.proofs.lemmas.List.{length-map}
 use Rattle.std.specs.Cmp.Lexicographic.{bytes_decides, pointwise, same_text, other_text}
 use Rattle.sig_diff.specs.declared.contents.Content.{Content}
 use Rattle.sig_expr.specs.Awaited.{awaits}
-use Rattle.sig_expr.specs.Scratch.{list_of}
-use Rattle.sig_expr.specs.Trees.{ViewTree, signal_view, vector_view, map_view, entries_view, tagged_view}
-use Rattle.sig_expr.specs.declared.shown.Shown.{Shown}
-use Rattle.sig_expr.specs.declared.shown.Shown.TheVariants as shown
+use Rattle.sig_expr.specs.Trees.{ViewTree}
 use Rattle.sig_hist.specs.Changes.{IsInOrder}
 use Rattle.sig_hist.specs.Histories.{is_closed}
-use Rattle.sig_hist.specs.OneThread.{no_source}
+use Rattle.sig_hist.specs.Plain.{no_source}
 use Rattle.sig_hist.specs.Sources.{Source, is_among, writers_of}
 use Rattle.sig_report.proofs.Advancing.{AreInside, HasAdvanced, advanced_has, advanced_only, all_go_on, awaited_at_end, inside_is_within, none_falls, others_stay, stays_at_ends, stays_there, still_inside}
-use Rattle.sig_report.proofs.Alike.{same_flow}
+use Rattle.sig_rows.proofs.Alike.{same_flow}
 use Rattle.sig_report.proofs.Among.{all_among, each_among}
 use Rattle.sig_report.proofs.Events.{map_at}
-use Rattle.sig_report.proofs.Growing.{AllGrow, alike_ways, closed_stays, grows_longer, same_state}
+use Rattle.sig_hist.specs.Ways.{AllGrow, Way, AreWithin, contents_at, leaf_source, ways}
+use Rattle.sig_rows.proofs.Growing.{alike_ways, grows_longer, same_state}
 use Rattle.sig_report.proofs.Numbering.{LooksBelow}
-use Rattle.sig_report.proofs.RowSteps.{IsOpen, IsOpenBody, IsOver, complete_append, first_is_open, next_is_open, next_is_over, open_is_incomplete}
+use Rattle.sig_rows.proofs.RowSteps.{IsOpen, IsOpenBody, IsOver, complete_append, first_is_open, next_is_open, next_is_over, open_is_incomplete}
 use Rattle.sig_report.specs.Playing.{Watched, advanced, is_at_end, polled, polled_later, with_row}
-use Rattle.sig_ops.specs.EnumerateTurns.{enumeration_stands}
-use Rattle.sig_ops.specs.Enumerating.{Enumeration, tagged_from}
-use Rattle.sig_view.proofs.Leading.{BodyLeads, view_leads}
-use Rattle.sig_view.proofs.Tags.{as_many_tags}
-use Rattle.sig_view.specs.Flow.{GoesAhead, Way, first_body, flow, with_tags}
-use Rattle.sig_view.specs.SoundRows.{AreSound, AreWithin, IsNextRow, IsShownBy, IsSoundRow, Seen, are_complete, contents_at, has_tags, is_awaited, leaf_source, nothing_seen, seen_after, seen_of, shown_after, tags_of, ways}
-use Rattle.sig_view.specs.declared.rows.Body.{Body}
-use Rattle.sig_view.specs.declared.rows.Body.TheVariants as body
-use Rattle.sig_view.specs.declared.rows.Body.TheVariants.{Ended}
-use Rattle.sig_view.specs.declared.rows.Row.{Row}
-
--- ---- what is shown
-
-first_is_open_body : (view : ViewTree ℕ) (s : ℕ → Content) → IsOpenBody (first_body view s)
-first_is_open_body (signal_view e) s = tt
-first_is_open_body (vector_view e) s = tt
-first_is_open_body (map_view m) s = tt
-first_is_open_body (entries_view m) s = tt
-first_is_open_body (tagged_view e) s = tt
-
-pub first_shown : (view : ViewTree ℕ) (s : ℕ → Content) → IsShownBy view s (seen_after (nothing_seen view) (first_body view s))
-first_shown (signal_view e) s = record { kind = refl; shows = refl; tags = tt }
-first_shown (vector_view e) s = record { kind = refl; shows = refl; tags = tt }
-first_shown (map_view m) s = record { kind = refl; shows = refl; tags = tt }
-first_shown (entries_view m) s = record { kind = refl; shows = refl; tags = tt }
-first_shown (tagged_view e) s =
-    let stands = enumeration_stands (list_of s e) in
-    let count : 0 + (length (tagged_from 0 (list_of s e)) + 0) ≡ length (list_of s e) = omega (arith, as_many_tags 0 (list_of s e)) in
-    record { kind = refl; shows = ap shown.Vector stands.values; tags = rw count (record { values = refl; distinct = stands.distinct; given_out = stands.given_out }) }
-
-pub kind_stays : (seen : Shown) (given : Body) → has_tags (shown_after seen given) ≡ has_tags seen
-kind_stays (shown.Signal old) (body.Signal value) = refl
-kind_stays (shown.Vector items) (body.Vector diffs) = refl
-kind_stays (shown.Map entries) (body.Map diffs) = refl
-kind_stays (shown.Pairs pairs) (body.Pairs diffs) = refl
-kind_stays (shown.Tagged elements) (body.Tagged diffs) = refl
-kind_stays seen given = refl
-
-flow_is_open : (view : ViewTree ℕ) (tags : Option Enumeration) (way : ℕ → Way) → IsOpenBody (with_tags tags (flow way view))
-flow_is_open (signal_view e) None way = tt
-flow_is_open (signal_view e) (Some op) way = tt
-flow_is_open (vector_view e) None way = tt
-flow_is_open (vector_view e) (Some op) way = tt
-flow_is_open (map_view m) None way = tt
-flow_is_open (map_view m) (Some op) way = tt
-flow_is_open (entries_view m) None way = tt
-flow_is_open (entries_view m) (Some op) way = tt
-flow_is_open (tagged_view e) None way = tt
-flow_is_open (tagged_view e) (Some op) way = tt
-
--- a row that isn't an ended one is sound where it is a sound next one
-next_is_sound : (view : ViewTree ℕ) (sources : List Source) (from : List ℕ) (seen : Seen) (at : List ℕ) (given : Body) (later : List Row) → IsOpenBody given →
-    IsNextRow view sources from seen at given → IsSoundRow view sources from seen at given later
-next_is_sound view sources from seen at Ended later open_ is = absurd open_
-next_is_sound view sources from seen at given later open_ is = is
+use Rattle.sig_rows.specs.Flow.{first_body, flow, with_tags}
+use Rattle.sig_rows.specs.SoundRows.{AreSound, IsNextRow, IsShownBy, Seen, are_complete, is_awaited, nothing_seen, seen_after, seen_of, tags_of}
+use Rattle.sig_rows.specs.declared.rows.Body.{Body}
+use Rattle.sig_rows.specs.declared.rows.Body.TheVariants.{Ended}
+use Rattle.sig_rows.specs.declared.rows.Row.{Row}
+use Rattle.sig_rows.proofs.Showing.{next_given, next_row, next_shows, first_is_open_body, first_shown, flow_is_open, next_is_sound}
 
 -- ---- what a poll computes to
 
@@ -163,28 +112,14 @@ module _ (view : ViewTree ℕ) where
 
       module _ (seen : Seen) (shows_it : IsShownBy view (contents_at final from) seen) where
         abbrev given : Body
-        given = with_tags (tags_of seen) (flow (ways final from at) view)
+        given = next_given view final in_order from at (all_go_on view sources from at inside has) seen shows_it
 
-        goes : (leaf : ℕ) → GoesAhead (ways final from at leaf)
-        goes leaf = record { ahead = none_falls view sources from at inside has leaf; in_order = in_order leaf }
-
-        leads : BodyLeads (ways final from at) goes view seen.shown seen.next
-        leads = view_leads (ways final from at) goes view seen.shown seen.next (record { kind = shows_it.kind; shows = shows_it.shows; tags = shows_it.tags })
-
-        next_row : pointwise nat_eq from at ≡ false → IsNextRow view final from seen at given
-        next_row moves = record {
-          within = still_within at here;
-          goes_on = all_go_on view sources from at inside has;
-          moves = λ back. other_text from at (sym moves) (sym back);
-          awaited = λ leaf unawaited. others_stay view sources from at inside has leaf (awaited_now leaf ∙ unawaited);
-          flow = refl;
-          lawful = leads.lawful;
-          replay = leads.replay;
-          tags = rw leads.follow leads.differ;
-        }
+        sound_row : pointwise nat_eq from at ≡ false → IsNextRow view final from seen at given
+        sound_row moves = next_row view final in_order from at (all_go_on view sources from at inside has) seen shows_it
+            (still_within at here) (λ back. other_text from at (sym moves) (sym back)) (λ leaf unawaited. others_stay view sources from at inside has leaf (awaited_now leaf ∙ unawaited))
 
         shows_next : IsShownBy view (contents_at final at) (seen_after seen given)
-        shows_next = record { kind = kind_stays seen.shown given ∙ shows_it.kind; shows = leads.replay; tags = rw leads.follow leads.differ }
+        shows_next = next_shows view final in_order from at (all_go_on view sources from at inside has) seen shows_it
 
       -- by whether all leaves have stayed, and whether the view is at its end
       later_polled : (first : Row) (rows : List Row) (stays ends : Bool) → OpenAt final from (first ∷ rows) → pointwise nat_eq from at ≡ stays → is_at_end view sources at ≡ ends →
@@ -195,8 +130,8 @@ module _ (view : ViewTree ℕ) where
           λ leaf awaited. let parts = and_parts _ _ (each_is_done sources at leaf ends (awaited_now leaf ∙ awaited)) in (eqb-true _ _ parts.0, parts.1) in
           ended at first _ (next_is_over view final from is.seen first rows (record { at = at; body = Ended }) is.is_open refl (record {
             stays = sym (same_text from at (sym stays));
-            end = λ leaf awaited. (done leaf awaited).0 ∙ ap length (sym (closed_stays _ _ (grow.each leaf) (done leaf awaited).1));
-            closed = λ leaf awaited. rw ((grow.each leaf).plan, closed_stays _ _ (grow.each leaf) (done leaf awaited).1) (done leaf awaited).1;
+            end = λ leaf awaited. (done leaf awaited).0 ∙ ap length (sym ((grow.each leaf).closed (done leaf awaited).1));
+            closed = λ leaf awaited. rw ((grow.each leaf).plan, (grow.each leaf).closed (done leaf awaited).1) (done leaf awaited).1;
             last = refl;
           }))
       later_polled first rows true false is stays ends =
@@ -207,7 +142,7 @@ module _ (view : ViewTree ℕ) where
           let same : flow (ways sources from at) view ≡ flow way view = same_flow _ _ (λ leaf. alike_ways _ _ _ _ (grow.each leaf) (none_falls view sources from at inside has leaf) (here.each leaf)) view in
           let open_body : IsOpenBody row.body = flow_is_open view (tags_of is.seen) way in
           let open_ : IsOpen view final at (seen_after is.seen row.body) (first ∷ rows ++ row ∷ []) =
-          next_is_open view final from is.seen first rows row is.is_open open_body (next_is_sound view final from is.seen at row.body [] open_body (next_row is.seen is.shown stays)) in
+          next_is_open view final from is.seen first rows row is.is_open open_body (next_is_sound view final from is.seen at row.body [] open_body (sound_row is.seen is.shown stays)) in
           rw (is.is_open.shows, same) (caught_up at first (rows ++ row ∷ []) here (stays_there view sources from at inside has) (record { seen = seen_after is.seen row.body; is_open = open_; shown = shows_next is.seen is.shown }))
 
     pub poll : (at : List ℕ) (rows : List Row) → Sees sources final at rows → IsPolledNow (polled view sources (record { at = at; rows = rows }))

@@ -3,7 +3,7 @@ use Rattle.std.proofs.Common.{◌≡◌, ◌∙◌, ℕ, zero, suc, ◌+◌, ◌
 use Rattle.std.proofs.lemmas.List.{ext_get_or, length-map}
 use Rattle.sig_expr.specs.Shapes.{view_tree}
 use Rattle.sig_expr.specs.declared.expressions.View.{View}
-use Rattle.sig_hist.specs.OneThread.{no_source}
+use Rattle.sig_hist.specs.Plain.{no_source}
 use Rattle.sig_hist.specs.Sources.{Source, content_of}
 use Rattle.sig_hist.specs.declared.plans.SourcePlan.{SourcePlan}
 use Rattle.sig_report.proofs.Events.{map_at}
@@ -11,7 +11,7 @@ use Rattle.sig_report.specs.Lawful.{EachPair, kind_of_view, sources_in}
 use Rattle.sig_report.specs.Playing.{Watched, source_reports, view_reports}
 use Rattle.sig_report.specs.declared.report.SourceReport.{SourceReport}
 use Rattle.sig_report.specs.declared.report.ViewReport.{ViewReport}
-use Rattle.sig_view.specs.SoundRows.{nothing_shown, replay_of}
+use Rattle.sig_rows.specs.SoundRows.{nothing_shown, replay_of}
 
 abbrev pub source_report : List ℕ → Source → SourceReport
 source_report name source = record { name = name; start = source.plan.start; history = source.history; last = content_of source }

@@ -4,7 +4,7 @@ use Rattle.std.proofs.lemmas.Bool.{eqb-true, eqb-false}
 use Rattle.std.proofs.lemmas.List.{get_or-set_same, get_or-set_other, length-set}
 use Rattle.sig_hist.specs.Sources.{Source}
 use Rattle.sig_report.proofs.Events.{GoesOn, IsPlay, share_goes, source_at, writer_goes}
-use Rattle.sig_report.proofs.Growing.{grows_not, grows_on}
+use Rattle.sig_rows.proofs.Growing.{grows_not, grows_on}
 use Rattle.sig_report.proofs.Views.{AllInOrder, GrowOn, PolledView, SeesView, no_shares, view_more, view_polled, view_sees}
 use Rattle.sig_report.specs.Lawful.{all_views}
 use Rattle.sig_script.specs.Leaving.{has_no_leaves}

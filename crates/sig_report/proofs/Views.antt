@@ -9,9 +9,10 @@ use Rattle.sig_expr.specs.declared.expressions.View.{View}
 use Rattle.sig_expr.specs.declared.expressions.View.TheVariants.{Signal}
 use Rattle.sig_hist.specs.Changes.{IsInOrder}
 use Rattle.sig_hist.specs.Histories.{is_closed}
-use Rattle.sig_hist.specs.OneThread.{no_source}
+use Rattle.sig_hist.specs.Plain.{no_source}
 use Rattle.sig_hist.specs.Sources.{Source, writers_of}
-use Rattle.sig_report.proofs.Growing.{AllGrow, Grows, grows_not}
+use Rattle.sig_hist.specs.Ways.{AllGrow, Grows, leaf_source}
+use Rattle.sig_rows.proofs.Growing.{grows_not}
 use Rattle.sig_report.proofs.Numbering.{numbered_looks}
 use Rattle.sig_report.proofs.Polls.{IsPolled, Sees, last_poll, poll, polled_sees, sees_more, sound_at_end}
 use Rattle.sig_report.specs.Lawful.{all_views, sources_of}
@@ -21,7 +22,7 @@ use Rattle.sig_script.specs.Paths.{below, here_unless}
 use Rattle.sig_script.specs.declared.types.Script.{Script}
 use Rattle.sig_script.specs.declared.types.ShareDef.{ShareDef}
 use Rattle.sig_script.specs.declared.types.ViewDef.{ViewDef}
-use Rattle.sig_view.specs.SoundRows.{AreSound, are_complete, leaf_source}
+use Rattle.sig_rows.specs.SoundRows.{AreSound, are_complete}
 
 -- ---- no refusals
 

@@ -5,16 +5,18 @@ use Rattle.std.proofs.lemmas.List.{append-nil, get_or-set_same, get_or-set_other
 use Rattle.std.proofs.lemmas.List.Folds.{list_all-append}
 use Rattle.std.specs.List.{list_all}
 use Rattle.std.specs.Option.{option_to_list}
+use Rattle.std.proofs.Math.Seq.{take-append_seam}
 use Rattle.sig_hist.proofs.Entries.{legal_append, own_entries_other, own_entries_own}
 use Rattle.sig_hist.specs.Changes.{reply_to}
 use Rattle.sig_hist.specs.Histories.{IsLegal, ends_with_leave, has_left, is_leave, own_entries}
-use Rattle.sig_hist.specs.OneThread.{no_source}
+use Rattle.sig_hist.specs.Plain.{no_source}
 use Rattle.sig_hist.specs.Sources.{IsIn, Source, content_of, is_among, writers_of}
 use Rattle.sig_hist.specs.declared.edits.Edit.{Edit}
 use Rattle.sig_hist.specs.declared.edits.Edit.TheVariants.{Leave}
 use Rattle.sig_hist.specs.declared.edits.Entry.{Entry}
 use Rattle.sig_hist.specs.declared.plans.SourcePlan.{SourcePlan}
-use Rattle.sig_report.proofs.Growing.{Grows, grows_not}
+use Rattle.sig_hist.specs.Ways.{Grows}
+use Rattle.sig_rows.proofs.Growing.{grows_not}
 use Rattle.sig_report.specs.Lawful.{no_writer}
 use Rattle.sig_script.specs.Leaving.{has_no_leaves, leaves_nowhere}
 use Rattle.sig_report.specs.Playing.{edited_by, edits_of}
@@ -91,8 +93,7 @@ pub goes_growing : (writer : ℕ) (source : Source) (edits : List Edit) (later :
 goes_growing writer source edits later stays = grows_not source
 goes_growing writer source edits later (enters edit is_in) = record {
   plan = refl;
-  more = _;
-  on = refl;
+  front = take-append_seam source.history _;
   closed = λ closed. let left = holds_among (λ one. has_left one source.history) (writers_of source.plan.allow) writer is_in.is_writer closed in absurd (let never : true ≡ false = sym left ∙ is_in.stays in cc);
 }
 

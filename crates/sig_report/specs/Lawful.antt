@@ -3,11 +3,12 @@ use Rattle.std.specs.Prelude.{◌≡◌, ℕ, ◌+◌, ◌-◌, ℤ, pos, List, 
 use Rattle.std.specs.List.{list_all}
 use Rattle.sig_expr.specs.Leaves.{leaves, numbered}
 use Rattle.sig_expr.specs.Shapes.{view_tree}
+use Rattle.sig_expr.specs.Shows.{shows}
 use Rattle.sig_expr.specs.declared.shown.Shown.{Shown}
 use Rattle.sig_expr.specs.declared.expressions.View.{View}
 use Rattle.sig_expr.specs.declared.expressions.View.TheVariants as view
 use Rattle.sig_hist.specs.Histories.{IsLegal, own_entries}
-use Rattle.sig_hist.specs.OneThread.{no_source}
+use Rattle.sig_hist.specs.Plain.{no_source}
 use Rattle.sig_hist.specs.Sources.{Source, content_of, is_among, writers_of}
 use Rattle.sig_hist.specs.declared.edits.Edit.{Edit}
 use Rattle.sig_hist.specs.declared.edits.Edit.TheVariants.{Set, Leave}
@@ -25,10 +26,11 @@ use Rattle.sig_script.specs.declared.types.ShareDef.{ShareDef}
 use Rattle.sig_script.specs.declared.types.SourceDef.{SourceDef}
 use Rattle.sig_script.specs.declared.types.ViewDef.{ViewDef}
 use Rattle.sig_script.specs.declared.types.WriterDef.{WriterDef}
-use Rattle.sig_view.specs.SoundRows.{AreSound, are_complete, nothing_shown, replay_of}
-use Rattle.sig_view.specs.declared.rows.Body.{Body}
-use Rattle.sig_view.specs.declared.rows.Body.TheVariants as body
-use Rattle.sig_view.specs.declared.rows.Row.{Row}
+use Rattle.sig_rows.specs.SoundRows.{AreSound, are_complete, nothing_shown, replay_of, without_tags}
+use Rattle.sig_rows.specs.laws.SoundRows.{last_contents}
+use Rattle.sig_rows.specs.declared.rows.Body.{Body}
+use Rattle.sig_rows.specs.declared.rows.Body.TheVariants as body
+use Rattle.sig_rows.specs.declared.rows.Row.{Row}
 
 -- each of a list and the one of another at its place, by their number from this one on. The lists are of one length
 abbrev pub EachPair : {A B : Type 0} → (ℕ → A → B → Type 0) → ℕ → List A → List B → Type 0
@@ -91,12 +93,14 @@ all_views script = map (λ (share : ShareDef). view.Signal share.signal) script.
 abbrev pub sources_of : List Source → View → List Source
 sources_of sources shown = map (λ source. get_or sources source no_source) (leaves (view_tree shown))
 
--- a view has sound and complete rows, and its last content is their replay
+-- a view has sound and complete rows, and its last content is their replay, and without tags the view from scratch of what its leaves
+-- hold at the end
 pub record IsLawfulView (sources : List Source) (shown : View) (reported : ViewReport) : Type 0 where
   pub kind : reported.kind ≡ kind_of_view shown
   pub sound : AreSound (numbered (view_tree shown)) (sources_of sources shown) reported.rows
   pub complete : are_complete reported.rows ≡ true
   pub last : reported.last ≡ replay_of (nothing_shown (view_tree shown)) reported.rows
+  pub shows : without_tags reported.last ≡ shows (numbered (view_tree shown)) (last_contents (sources_of sources shown))
 
 -- ---- the report
 

@@ -10,7 +10,7 @@ use Rattle.sig_expr.specs.declared.expressions.VecExpr.{VecExpr}
 use Rattle.sig_expr.specs.declared.expressions.View.{View}
 use Rattle.sig_hist.specs.Changes.{reply_to}
 use Rattle.sig_hist.specs.Histories.{is_closed}
-use Rattle.sig_hist.specs.OneThread.{no_source}
+use Rattle.sig_hist.specs.Plain.{no_source}
 use Rattle.sig_hist.specs.Sources.{Source, content_of, entered, is_among, writers_of}
 use Rattle.sig_hist.specs.declared.edits.Edit.{Edit}
 use Rattle.sig_hist.specs.declared.edits.Edit.TheVariants.{Set, Leave}
@@ -26,12 +26,13 @@ use Rattle.sig_script.specs.declared.types.ShareDef.{ShareDef}
 use Rattle.sig_script.specs.declared.types.SourceDef.{SourceDef}
 use Rattle.sig_script.specs.declared.types.ViewDef.{ViewDef}
 use Rattle.sig_script.specs.declared.types.WriterDef.{WriterDef}
-use Rattle.sig_view.specs.Flow.{first_body, flow, with_tags}
-use Rattle.sig_view.specs.SoundRows.{are_complete, contents_at, is_awaited, leaf_source, nothing_seen, nothing_shown, replay_of, seen_of, tags_of, ways}
-use Rattle.sig_view.specs.declared.rows.Body.{Body}
-use Rattle.sig_view.specs.declared.rows.Body.TheVariants as body
-use Rattle.sig_view.specs.declared.rows.Body.TheVariants.{Ended}
-use Rattle.sig_view.specs.declared.rows.Row.{Row}
+use Rattle.sig_rows.specs.Flow.{first_body, flow, with_tags}
+use Rattle.sig_rows.specs.SoundRows.{are_complete, is_awaited, nothing_seen, nothing_shown, replay_of, seen_of, tags_of}
+use Rattle.sig_hist.specs.Ways.{contents_at, leaf_source, ways}
+use Rattle.sig_rows.specs.declared.rows.Body.{Body}
+use Rattle.sig_rows.specs.declared.rows.Body.TheVariants as body
+use Rattle.sig_rows.specs.declared.rows.Body.TheVariants.{Ended}
+use Rattle.sig_rows.specs.declared.rows.Row.{Row}
 
 -- a view at one moment: its leaves' positions, and its rows
 pub record Watched : Type 0 where

@@ -24,9 +24,9 @@ use Rattle.sig_script.specs.Grammar.{kind_name, view_kind_name}
 use Rattle.sig_script.specs.declared.types.Script.{Script}
 use Rattle.sig_script.specs.declared.types.ShareDef.{ShareDef}
 use Rattle.sig_script.specs.declared.types.WriterDef.{WriterDef}
-use Rattle.sig_view.specs.declared.rows.Body.{Body}
-use Rattle.sig_view.specs.declared.rows.Body.TheVariants as body
-use Rattle.sig_view.specs.declared.rows.Row.{Row}
+use Rattle.sig_rows.specs.declared.rows.Body.{Body}
+use Rattle.sig_rows.specs.declared.rows.Body.TheVariants as body
+use Rattle.sig_rows.specs.declared.rows.Row.{Row}
 
 -- each text after a separator
 abbrev pub each_after : List ℕ → List (List ℕ) → List ℕ

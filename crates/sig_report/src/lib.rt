@@ -4,8 +4,6 @@
 mod law;
 mod printing;
 mod report;
-#[cfg(test)]
-mod tests;
 mod text;
 
 pub use law::play_is_lawful;

@@ -1,8 +1,8 @@
 use sig_diff::{Content, Items, Name};
 use sig_expr::Shown;
 use sig_hist::History;
+use sig_rows::Rows;
 use sig_script::ViewKind;
-use sig_view::Rows;
 
 /// What a script did: the history of each source and the rows of each view.
 #[derive(Debug, Drop)]

@@ -1,4 +1,4 @@
-ghost use Rattle.std.specs.Prelude.{◌≡◌, ◌++◌, ◌<◌, ◌^◌, ℕ, List, All, codes, map, length, OnOk, IfOk};
+ghost use Rattle.std.specs.Prelude.{◌≡◌, ◌++◌, ◌<◌, ◌^◌, All, codes, length, OnOk, IfOk};
 ghost use Rattle.std.specs.List.{flat_map};
 ghost use Rattle.sig_report.specs.Text.{entry_line, entries_text, final_line, name_of_caller, caller_names, source_text, report_text};
 
@@ -7,8 +7,8 @@ use crate::report::{Report, SourceReport, ViewReport};
 use sig_diff::{Content, NoMemory};
 use sig_expr::Shown;
 use sig_hist::{Edit, Entry, Reply};
+use sig_rows::{Body, Row};
 use sig_script::{Script, kind_name, view_kind_name};
-use sig_view::{Body, Row};
 use std::alloc::Global;
 
 impl Printed for Content {

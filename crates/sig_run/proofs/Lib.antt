@@ -6,4 +6,5 @@ pub mod Viewing
 pub mod Sized
 pub mod Sizing
 pub mod Starting
+pub mod AtEnd
 pub mod Reported

@@ -1,5 +1,5 @@
 -- What a poll does to a view that follows its sources on the port of one thread.
-use Rattle.std.proofs.Common.{◌≡◌, ◌≢◌, ◌∙◌, ℕ, zero, suc, ◌+◌, ◌<◌, ◌≤◌, ◌==◌, List, [], ◌∷◌, ◌++◌, length, map, get_or, slice_index, nat_eq, Bool, true, false, ◌||◌, if◌then◌else◌, Option, refl, sym, ap, ap₂, subst, arith, rules}
+use Rattle.std.proofs.Common.{◌≡◌, ◌≢◌, ◌∙◌, ℕ, zero, suc, ◌+◌, ◌<◌, ◌≤◌, ◌==◌, List, [], ◌∷◌, ◌++◌, length, map, get_or, slice_index, nat_eq, Bool, true, false, ◌||◌, if◌then◌else◌, Option, refl, sym, ap, ap₂, subst, arith}
 use Rattle.std.proofs.lemmas.Bool.{and_from, and_parts, eq-eqb}
 use Rattle.std.proofs.lemmas.List.{ext_get_or, length-map, length_push}
 use Rattle.std.specs.Cmp.Lexicographic.{bytes_decides, pointwise, same_text}
@@ -13,40 +13,34 @@ use Rattle.sig_expr.specs.declared.expressions.View.{View}
 use Rattle.sig_expr.specs.declared.shown.Shown.{Shown}
 use Rattle.sig_expr.specs.declared.shown.Shown.TheVariants as shown
 use Rattle.sig_hist.specs.Histories.{is_closed}
-use Rattle.sig_hist.specs.OneThread.{OneThread, known, leaf_at, no_source, source_at}
+use Rattle.sig_hist.specs.Plain.{OneThread, known, leaf_at, no_source, source_at}
 use Rattle.sig_hist.specs.Sources.{Source, is_among, writers_of}
 use Rattle.sig_report.proofs.Advancing.{advanced_only}
 use Rattle.sig_report.proofs.Events.{map_at}
-use Rattle.sig_report.proofs.Numbering.{numbered_looks}
-use Rattle.sig_report.proofs.Polls.{all_are_done, each_is_done, first_shown, kind_stays, polled_is}
-use Rattle.sig_report.proofs.RowSteps.{complete_append, replay_of_append, seen_of_append, seen_shows}
+use Rattle.sig_report.proofs.Numbering.{nothing_numbered, numbered_looks}
+use Rattle.sig_report.proofs.Polls.{all_are_done, each_is_done, polled_is}
+use Rattle.sig_rows.proofs.Showing.{first_shown, kind_stays}
+use Rattle.sig_rows.proofs.RowSteps.{complete_append, seen_of_append}
 use Rattle.sig_report.specs.Playing.{Watched, advanced, is_at_end, polled, polled_later, with_row}
-use Rattle.sig_run.specs.Watching.{IsFollowing, IsShowable, IsShowing, seen_by, sources_under, tree_of, watched_of}
+use Rattle.sig_run.specs.Watching.{IsFollowing, IsShowing, seen_by, sources_under, tree_of, watched_of}
 use Rattle.sig_run.specs.declared.watching.WatchedView.{WatchedView}
-use Rattle.sig_view.proofs.Numbering.{leaf_within}
-use Rattle.sig_view.proofs.Staying.{source_of_leaf}
-use Rattle.sig_view.specs.Flow.{first_body, flow, with_tags}
+use Rattle.sig_rows.proofs.Numbering.{leaf_within}
+use Rattle.sig_walk.proofs.Staying.{source_of_leaf}
+use Rattle.sig_rows.specs.Flow.{first_body, flow, with_tags}
 use Rattle.sig_view.specs.Polling.{HasStayed, IsEnd, IsPoll, IsRow, IsSameTask}
-use Rattle.sig_view.specs.SoundRows.{AreWithin, IsLawfulBody, IsShownBy, Seen, are_complete, contents_at, is_awaited, is_end, leaf_source, nothing_seen, nothing_shown, replay_of, seen_after, seen_of, shown_after, tags_of, ways}
+use Rattle.sig_hist.specs.Ways.{AreWithin, contents_at, leaf_source, ways}
+use Rattle.sig_rows.specs.SoundRows.{IsLawfulBody, IsShownBy, Seen, are_complete, is_awaited, is_end, nothing_seen, seen_after, seen_of, shown_after, tags_of}
 use Rattle.sig_view.specs.Tasks.{IsReady, contents_of, ended, expression_of, failed, first_of, following, has_row, is_ended, is_failed, is_following, positions_of, rows_given, sources_of, tags_at, view_of}
-use Rattle.sig_view.specs.Walking.{IsFresh, is_seen_closed, seen_source, seen_sources}
-use Rattle.sig_view.specs.declared.rows.Body.{Body}
-use Rattle.sig_view.specs.declared.rows.Body.TheVariants.{Ended}
-use Rattle.sig_view.specs.declared.rows.Row.{Row}
+use Rattle.sig_walk.specs.Walking.{IsFresh, is_seen_closed, seen_source, seen_sources}
+use Rattle.sig_rows.specs.declared.rows.Body.{Body}
+use Rattle.sig_rows.specs.declared.rows.Body.TheVariants.{Ended}
+use Rattle.sig_rows.specs.declared.rows.Row.{Row}
 use Rattle.sig_view.specs.declared.task.Polled.TheVariants as answer
 use Rattle.sig_view.specs.declared.task.Stage.{Stage}
 use Rattle.sig_view.specs.declared.task.Stage.TheVariants.{Following}
 use Rattle.sig_view.specs.declared.task.ViewTask.{ViewTask}
 
--- ---- what is shown
-
--- a first row can be shown
-first_is_lawful : (view : ViewTree ℕ) (s : ℕ → Content) → IsShowable (nothing_shown view) (first_body view s)
-first_is_lawful (signal_view e) s = tt
-first_is_lawful (vector_view e) s = (refl, tt)
-first_is_lawful (map_view m) s = search rules
-first_is_lawful (entries_view m) s = (refl, tt)
-first_is_lawful (tagged_view e) s = (refl, tt)
+-- ---- bodies that aren't the end
 
 first_goes_on : (view : ViewTree ℕ) (s : ℕ → Content) → is_end (first_body view s) ≡ false
 first_goes_on (signal_view e) s = refl
@@ -54,10 +48,6 @@ first_goes_on (vector_view e) s = refl
 first_goes_on (map_view m) s = refl
 first_goes_on (entries_view m) s = refl
 first_goes_on (tagged_view e) s = refl
-
-lawful_is_showable : (seen : Shown) (given : Body) → IsLawfulBody seen given → IsShowable seen given
-lawful_is_showable seen Ended is = tt
-lawful_is_showable seen given is = is
 
 no_lawful_end : (seen : Shown) → IsLawfulBody seen Ended → ⊥
 no_lawful_end (shown.Signal old) is = is
@@ -156,13 +146,6 @@ pub record IsPolled (port next : OneThread) (view later : WatchedView) : Type 0 
   pub expression : expression_of later.task ≡ expression_of view.task
   pub following : IsFollowing next later
 
-nothing_numbered : {L : Type 0} (view : ViewTree L) → nothing_shown (numbered view) ≡ nothing_shown view
-nothing_numbered (signal_view e) = refl
-nothing_numbered (vector_view e) = refl
-nothing_numbered (map_view m) = refl
-nothing_numbered (entries_view m) = refl
-nothing_numbered (tagged_view e) = refl
-
 -- a poll that leaves this task
 module _ (port next : OneThread) (view : WatchedView) (new : ViewTask) (is : IsFollowing port view) (same : next.sources ≡ port.sources) (open_ : is_ended view.task ≡ false)
     (ready : IsReady (known next) new) (same_task : IsSameTask view.task new) (same_leaves : (known next).source ≡ (known port).source) where
@@ -238,16 +221,16 @@ module _ (port next : OneThread) (view : WatchedView) (new : ViewTask) (is : IsF
 
   -- ---- the view after the poll, with these rows
 
-  module _ (rows : List Row) (seen : Shown) (given : has_row new ≡ true) (works : is_failed new ≡ false) where
+  module _ (rows : List Row) (given : has_row new ≡ true) (works : is_failed new ≡ false) where
     abbrev later : WatchedView
-    later = record { task = new; rows = rows; shown = seen }
+    later = record { task = new; rows = rows }
 
     same_seen : seen_of (nothing_seen tree) rows ≡ seen_by later
     same_seen = ap (λ (shown : View). seen_of (nothing_seen (view_tree shown)) rows) (sym same_task.view)
 
     polled_by : (watched : Watched) → record { at = at; rows = rows } ≡ watched → watched ≡ polled (numbered tree) sources (watched_of view) → are_complete rows ≡ is_ended new → 0 < length rows →
-        IsShownBy (view_of new) (contents_of (known next) new) (seen_of (nothing_seen tree) rows) → (is_ended new ≡ false → tags_of (seen_of (nothing_seen tree) rows) ≡ tags_at new) → seen ≡ replay_of (nothing_shown tree) rows → IsPolled port next view later
-    polled_by watched at_last polled_is over some shown_is tags replay = record {
+        IsShownBy (view_of new) (contents_of (known next) new) (seen_of (nothing_seen tree) rows) → (is_ended new ≡ false → tags_of (seen_of (nothing_seen tree) rows) ≡ tags_at new) → IsPolled port next view later
+    polled_by watched at_last polled_is over some shown_is tags = record {
       polled = (λ i. record { at = if given i then at else []; rows = rows }) ∙ at_last ∙ polled_is ∙ ap (λ (sources : List Source). polled (numbered tree) sources (watched_of view)) new_sources;
       expression = same_task.view;
       following = record {
@@ -256,7 +239,6 @@ module _ (port next : OneThread) (view : WatchedView) (new : ViewTask) (is : IsF
         works = works;
         over = over;
         showing = rw given (some, subst (λ (seen : Seen). IsShownBy (view_of new) (contents_of (known next) new) seen) same_seen shown_is, λ open_now. ap tags_of (sym same_seen) ∙ tags open_now);
-        shows = record { replay = replay ∙ ap (λ (shown : View). replay_of (nothing_shown (view_tree shown)) rows) (sym same_task.view) };
       };
     }
 
@@ -265,7 +247,6 @@ module _ (port next : OneThread) (view : WatchedView) (new : ViewTask) (is : IsF
   module _ (row : Row) (at_is : row.at ≡ at) where
     -- what it shows, and that it is the row of the definition
     record IsRowPolled (given : Bool) : Type 0 where
-      can : IsShowable view.shown row.body
       goes_on : is_end row.body ≡ false
       polled_is : with_row at row.body (record { at = if given then from else []; rows = view.rows }) ≡ polled (numbered tree) sources (record { at = if given then from else []; rows = view.rows })
       shown_is : IsShownBy (view_of new) (contents_of (known next) new) (seen_after (seen_by view) row.body)
@@ -275,9 +256,6 @@ module _ (port next : OneThread) (view : WatchedView) (new : ViewTask) (is : IsF
     module _ (showing : IsShowing false (known port) view) (is_row : IsRow (known port) (known next) view.task new false row) where
       first_nothing : seen_by view ≡ nothing_seen (numbered tree)
       first_nothing = ap (seen_of (nothing_seen tree)) showing.0 ∙ ap (λ (shown : Shown). record { shown = shown; next = 0 }) (sym (nothing_numbered tree))
-
-      shown_nothing : view.shown ≡ nothing_shown (numbered tree)
-      shown_nothing = is.shows.replay ∙ ap (replay_of (nothing_shown tree)) showing.0 ∙ sym (nothing_numbered tree)
 
       at_ends : at ≡ map (λ (source : Source). length source.history) sources
       at_ends =
@@ -290,7 +268,6 @@ module _ (port next : OneThread) (view : WatchedView) (new : ViewTask) (is : IsF
     row_polled false showing is_row =
         let whole : row.body ≡ first_body (numbered tree) (contents_at sources at) = is_row.0.whole ∙ ap (λ (at : List ℕ). first_body (numbered tree) (contents_at sources at)) at_is in
         record {
-          can = rw (shown_nothing showing is_row, whole) (first_is_lawful (numbered tree) _);
           goes_on = rw whole (first_goes_on (numbered tree) _);
           polled_is = first_poll (numbered tree) sources at view.rows row.body showing.0 (at_ends showing is_row) whole;
           shown_is = rw (same_tree, first_nothing showing is_row, whole) (first_shown (numbered tree) _);
@@ -298,7 +275,6 @@ module _ (port next : OneThread) (view : WatchedView) (new : ViewTask) (is : IsF
         }
     row_polled true showing is_row =
         let next_row = is_row.sound (seen_by view) showing.1 (showing.2 open_) in
-        let shows_rows : view.shown ≡ (seen_by view).shown = is.shows.replay ∙ sym (seen_shows (nothing_seen tree) view.rows) in
         let gone : at ≡ advanced (numbered tree) sources [] from = goes is_row.fresh (λ leaf unawaited.
         ap (λ (at : List ℕ). slice_index at leaf) (sym at_is) ∙ next_row.awaited leaf (ap (λ (at : List ℕ). is_awaited (numbered tree) sources at leaf) at_is ∙ unawaited)) in
         let moves : pointwise nat_eq from at ≡ false = moved_by (numbered tree) sources from at gone _ refl (λ stays. next_row.moves (at_is ∙ stays)) in
@@ -306,7 +282,6 @@ module _ (port next : OneThread) (view : WatchedView) (new : ViewTask) (is : IsF
         let body : row.body ≡ with_tags (tags_of (seen_of (nothing_seen (numbered tree)) view.rows)) (flow (ways sources from at) (numbered tree)) =
         next_row.flow ∙ ap₂ (λ (at : List ℕ) (start : Seen). with_tags (tags_of (seen_of start view.rows)) (flow (ways sources from at) (numbered tree))) at_is (sym start) in
         record {
-          can = rw shows_rows (lawful_is_showable (seen_by view).shown row.body next_row.lawful);
           goes_on = lawful_goes_on (seen_by view).shown row.body next_row.lawful;
           polled_is = ap (λ (given : Body). with_row at given (record { at = from; rows = view.rows })) body
               ∙ sym (later_poll (numbered tree) sources from at gone view.rows false _ showing.0 incomplete moves refl);
@@ -318,13 +293,12 @@ module _ (port next : OneThread) (view : WatchedView) (new : ViewTask) (is : IsF
           tags = is_row.tags (seen_by view) showing.1 (showing.2 open_);
         }
 
-    row_gives : (given : has_row new ≡ true) (works : is_failed new ≡ false) → is_ended new ≡ false → IsRowPolled (has_row view.task) → IsPolled port next view (record { task = new; rows = view.rows ++ row ∷ []; shown = shown_after view.shown row.body })
+    row_gives : (given : has_row new ≡ true) (works : is_failed new ≡ false) → is_ended new ≡ false → IsRowPolled (has_row view.task) → IsPolled port next view (record { task = new; rows = view.rows ++ row ∷ [] })
     row_gives given works goes_on by_row =
-        polled_by (view.rows ++ row ∷ []) (shown_after view.shown row.body) given works (with_row at row.body (watched_of view))
+        polled_by (view.rows ++ row ∷ []) given works (with_row at row.body (watched_of view))
         (λ i. record { at = at; rows = view.rows ++ record { at = at_is i; body = row.body } ∷ [] }) by_row.polled_is
         (complete_append view.rows row ∙ by_row.goes_on ∙ sym goes_on) (omega (arith, length_push view.rows row)) (rw (seen_of_append (nothing_seen tree) view.rows row) by_row.shown_is)
         (λ open_. rw (seen_of_append (nothing_seen tree) view.rows row) by_row.tags)
-        (sym (replay_of_append (nothing_shown tree) view.rows row ∙ ap (λ (seen : Shown). shown_after seen row.body) (sym is.shows.replay)))
 
   -- ---- no row
 
@@ -358,9 +332,9 @@ module _ (port next : OneThread) (view : WatchedView) (new : ViewTask) (is : IsF
         let here = sym (same_awaited leaf) ∙ awaited in
         sym (and_parts _ _ (each_is_done (numbered tree) sources at leaf ends here)).1 ∙ its_closed leaf (awaited_within leaf here) ∙ opens
 
-    rests : has_row new ≡ true → is_failed new ≡ false → is_ended new ≡ false → is_at_end (numbered tree) sources at ≡ false → IsPolled port next view (record { task = new; rows = view.rows; shown = view.shown })
+    rests : has_row new ≡ true → is_failed new ≡ false → is_ended new ≡ false → is_at_end (numbered tree) sources at ≡ false → IsPolled port next view (record { task = new; rows = view.rows })
     rests given works goes_on opens =
-        polled_by view.rows view.shown given works still (λ i. record { at = stayed.stays i; rows = view.rows }) (sym (rests_by false opens)) (incomplete ∙ sym goes_on) shows_still.0 shown_still (λ open_now. shows_still.2 open_ ∙ sym (stayed.tags (still_follows new given works goes_on))) is.shows.replay
+        polled_by view.rows given works still (λ i. record { at = stayed.stays i; rows = view.rows }) (sym (rests_by false opens)) (incomplete ∙ sym goes_on) shows_still.0 shown_still (λ open_now. shows_still.2 open_ ∙ sym (stayed.tags (still_follows new given works goes_on)))
 
     all_ended : IsEnd (known port) (known next) view.task new → is_at_end (numbered tree) sources at ≡ true
     all_ended end =
@@ -372,10 +346,9 @@ module _ (port next : OneThread) (view : WatchedView) (new : ViewTask) (is : IsF
     abbrev last : Row
     last = record { at = at; body = Ended }
 
-    ends : has_row new ≡ true → is_failed new ≡ false → is_ended new ≡ true → is_at_end (numbered tree) sources at ≡ true → IsPolled port next view (record { task = new; rows = view.rows ++ last ∷ []; shown = view.shown })
+    ends : has_row new ≡ true → is_failed new ≡ false → is_ended new ≡ true → is_at_end (numbered tree) sources at ≡ true → IsPolled port next view (record { task = new; rows = view.rows ++ last ∷ [] })
     ends given works over at_last =
-        polled_by (view.rows ++ last ∷ []) view.shown given works (with_row at Ended still) refl (sym (rests_by true at_last)) (complete_append view.rows last ∙ sym over) (omega (arith, length_push view.rows last)) (rw (seen_of_append (nothing_seen tree) view.rows last, seen_end (seen_by view)) shown_still) (λ open_. cc)
-        (sym (replay_of_append (nothing_shown tree) view.rows last ∙ after_end _ ∙ sym is.shows.replay))
+        polled_by (view.rows ++ last ∷ []) given works (with_row at Ended still) refl (sym (rests_by true at_last)) (complete_append view.rows last ∙ sym over) (omega (arith, length_push view.rows last)) (rw (seen_of_append (nothing_seen tree) view.rows last, seen_end (seen_by view)) shown_still) (λ open_. cc)
 
 -- ---- the answers
 
@@ -384,21 +357,18 @@ module _ {T : Type 0} (port next : OneThread) (view : WatchedView) (new : ViewTa
     by_row : IsRowPolled port next view new is same open_ poll.ready poll.same poll.polled.source row poll.answer_is.at (has_row view.task)
     by_row = row_polled port next view new is same open_ poll.ready poll.same poll.polled.source row poll.answer_is.at (has_row view.task) is.showing poll.answer_is.sound
 
-    pub batch_can : IsShowable view.shown row.body
-    batch_can = by_row.can
-
-    pub batch_polled : IsPolled port next view (record { task = new; rows = view.rows ++ row ∷ []; shown = shown_after view.shown row.body })
+    pub batch_polled : IsPolled port next view (record { task = new; rows = view.rows ++ row ∷ [] })
     batch_polled =
         row_gives port next view new is same open_ poll.ready poll.same poll.polled.source row poll.answer_is.at (poll.next.row ∙ or_true (has_row view.task)) (rw is.works at poll.next.failed) poll.next.ended by_row
 
-  pub pending_polled : IsPoll (known port) (known next) view.task new told answer.Pending → IsPolled port next view (record { task = new; rows = view.rows; shown = view.shown })
+  pub pending_polled : IsPoll (known port) (known next) view.task new told answer.Pending → IsPolled port next view (record { task = new; rows = view.rows })
   pending_polled poll =
       let stayed = poll.answer_is.stayed in
       let some = poll.answer_is.some in
       rests port next view new is same open_ poll.ready poll.same poll.polled.source stayed (poll.next.row ∙ rw stayed.row refl) (rw is.works at poll.next.failed) poll.next.ended
       (not_ended port next view new is same open_ poll.ready poll.same poll.polled.source stayed some.0 _ some.1 some.2 refl)
 
-  pub ended_polled : IsPoll (known port) (known next) view.task new told answer.Ended → IsPolled port next view (record { task = new; rows = view.rows ++ record { at = positions_of new; body = Ended } ∷ []; shown = view.shown })
+  pub ended_polled : IsPoll (known port) (known next) view.task new told answer.Ended → IsPolled port next view (record { task = new; rows = view.rows ++ record { at = positions_of new; body = Ended } ∷ [] })
   ended_polled poll =
       let stayed = poll.answer_is.stayed in
       ends port next view new is same open_ poll.ready poll.same poll.polled.source stayed (poll.next.row ∙ rw stayed.row refl) (rw is.works at poll.next.failed) poll.next.ended

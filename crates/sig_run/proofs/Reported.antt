@@ -1,12 +1,10 @@
 -- The reports of the code are those of the play.
-use Rattle.std.proofs.Common.{◌≡◌, ◌⊎◌, inl, inr, ◌∙◌, ℕ, ◌+◌, List, [], ◌∷◌, ◌++◌, length, map, All, refl, sym, ap, ap₂, subst, arith}
+use Rattle.std.proofs.Common.{◌≡◌, ◌⊎◌, inl, inr, ◌∙◌, ℕ, ◌+◌, List, [], ◌∷◌, ◌++◌, length, map, refl, sym, ap, ap₂, arith}
 use Rattle.std.proofs.lemmas.List.{append-nil}
-use Rattle.std.proofs.lemmas.List.Elements.{All-cons}
 use Rattle.std.specs.List.{zip}
 use Rattle.sig_diff.specs.declared.contents.Content.{Content}
 use Rattle.sig_expr.specs.Shapes.{view_tree}
 use Rattle.sig_expr.specs.declared.expressions.View.{View}
-use Rattle.sig_hist.specs.OneThread.{OneThread}
 use Rattle.sig_hist.specs.Sources.{Source, content_of}
 use Rattle.sig_hist.specs.declared.plans.SourcePlan.{SourcePlan}
 use Rattle.sig_report.proofs.Allowing.{length_plans_of, plans_are}
@@ -15,15 +13,15 @@ use Rattle.sig_report.proofs.Plays.{played_is}
 use Rattle.sig_report.proofs.Reports.{plans_kept}
 use Rattle.sig_report.proofs.Views.{no_shares, views_are}
 use Rattle.sig_report.specs.Lawful.{Lawful, all_views, kind_of_view}
-use Rattle.sig_report.specs.Playing.{Played, opened, play, scheduled, source_names, source_reports, view_names, view_reports}
+use Rattle.sig_report.specs.Playing.{Played, opened, play, played, scheduled, source_names, source_reports, view_names, view_reports}
 use Rattle.sig_report.specs.Text.{report_text}
 use Rattle.sig_report.specs.declared.report.Report.{Report}
 use Rattle.sig_report.specs.declared.report.SourceReport.{SourceReport}
 use Rattle.sig_report.specs.declared.report.ViewReport.{ViewReport}
 use Rattle.sig_run.specs.Program.{IsReportOf}
 use Rattle.sig_run.specs.Reporting.{reports_of, view_reports_of}
-use Rattle.sig_run.specs.Stages.{AreViewsOf, IsInStep, IsPlayable, played_of, reported}
-use Rattle.sig_run.specs.Watching.{ShowsItsRows, watched_of}
+use Rattle.sig_run.specs.Stages.{IsInStep, IsPlayable, played_of, reported}
+use Rattle.sig_run.specs.Watching.{watched_of}
 use Rattle.sig_run.specs.declared.stage.Stage.{Stage}
 use Rattle.sig_run.specs.declared.watching.WatchedView.{WatchedView}
 use Rattle.sig_script.specs.Plans.{plans_of, source_plans}
@@ -32,7 +30,7 @@ use Rattle.sig_script.specs.declared.types.ShareDef.{ShareDef}
 use Rattle.sig_script.specs.declared.types.SourceDef.{SourceDef}
 use Rattle.sig_script.specs.declared.types.ViewDef.{ViewDef}
 use Rattle.sig_script.specs.declared.types.WriterDef.{WriterDef}
-use Rattle.sig_view.specs.SoundRows.{nothing_shown, replay_of}
+use Rattle.sig_rows.specs.SoundRows.{nothing_shown, replay_of}
 
 -- ---- a loop over a list and another beside it
 
@@ -67,20 +65,12 @@ sources_reported (def ∷ defs) (source ∷ sources) starts =
 
 -- ---- views
 
-views_reported : (port : OneThread) (defs : List ViewDef) (views : List WatchedView) → AreViewsOf port (map (λ (def : ViewDef). def.view) defs) views →
+views_reported : (defs : List ViewDef) (views : List WatchedView) →
     view_reports_of defs views ≡ view_reports (map (λ (def : ViewDef). def.name) defs) (map (λ (def : ViewDef). def.view) defs) (map watched_of views)
-views_reported port [] [] are = refl
-views_reported port [] (view ∷ views) are = absurd are
-views_reported port (def ∷ defs) [] are = absurd are
-views_reported port (def ∷ defs) (view ∷ views) are =
-    ap₂ (λ (shown : View) (others : List ViewReport). record { name = def.name; kind = kind_of_view def.view; rows = view.rows; last = replay_of (nothing_shown (view_tree shown)) view.rows } ∷ others)
-    are.0.expression (views_reported port defs views are.1)
-
-pub all_show : (port : OneThread) (shown : List View) (views : List WatchedView) → AreViewsOf port shown views → All ShowsItsRows views
-all_show port [] [] are = λ place view within. absurd (omega arith)
-all_show port [] (view ∷ views) are = absurd are
-all_show port (one ∷ shown) [] are = absurd are
-all_show port (one ∷ shown) (view ∷ views) are = All-cons ShowsItsRows view views are.0.following.shows (all_show port shown views are.1)
+views_reported [] views = refl
+views_reported (def ∷ defs) [] = refl
+views_reported (def ∷ defs) (view ∷ views) =
+    ap (λ (others : List ViewReport). record { name = def.name; kind = kind_of_view def.view; rows = view.rows; last = replay_of (nothing_shown (view_tree def.view)) view.rows } ∷ others) (views_reported defs views)
 
 -- ---- the report
 
@@ -102,15 +92,17 @@ module _ (script : Script) (stage : Stage) (step : IsInStep script stage) where
   pub views_reports_are : view_reports_of script.views stage.views.items ≡ (reported script (played_of stage)).views
   views_reports_are =
       let shown : all_views script ≡ map (λ (def : ViewDef). def.view) script.views = views_are script unshared in
-      let are : AreViewsOf stage.port (map (λ (def : ViewDef). def.view) script.views) stage.views.items = subst (λ (shown : List View). AreViewsOf stage.port shown stage.views.items) shown step.views in
       let names : view_names script ≡ map (λ (def : ViewDef). def.name) script.views =
       ap (λ (shares : List ShareDef). map (λ (share : ShareDef). share.name) shares ++ map (λ (def : ViewDef). def.name) script.views) unshared in
-      views_reported stage.port script.views stage.views.items are
+      views_reported script.views stage.views.items
       ∙ ap₂ (λ (names : List (List ℕ)) (shown : List View). view_reports names shown (map watched_of stage.views.items)) (sym names) (sym shown)
 
--- the report of a play that has gone on to its end
-pub reported_play : (script : Script) (p : Played) → IsPlayable script → p ≡ ended_from script 0 script.views (written_from script 0 script.writers (scheduled script script.schedule (opened script))) → reported script p ≡ play script
-reported_play script p playable ends = ap (reported script) (ends ∙ sym (played_is script playable.built playable.no_leaves))
+-- a play that has gone on to its end, and its report
+pub play_over : (script : Script) (p : Played) → IsPlayable script → p ≡ ended_from script 0 script.views (written_from script 0 script.writers (scheduled script script.schedule (opened script))) → p ≡ played script
+play_over script p playable ends = ends ∙ sym (played_is script playable.built playable.no_leaves)
+
+pub reported_play : (script : Script) (p : Played) → p ≡ played script → reported script p ≡ play script
+reported_play script p over = ap (reported script) over
 
 pub reports_of_play : (script : Script) (report : Report) (text : List ℕ) → Lawful script (play script) → report ≡ play script → text ≡ report_text script report → IsReportOf script text
 reports_of_play script report text lawful played is_text = record { report = report; lawful = rw played lawful; played = played; is_text = is_text }

@@ -1,10 +1,10 @@
 -- The port of one thread has seen more after an edit and after a leave.
-use Rattle.std.proofs.Common.{◌≡◌, ◌∙◌, ℕ, ◌==◌, length, map, get_or, nat_lt, if◌then◌else◌, Bool, true, false, refl, sym, subst, arith}
+use Rattle.std.proofs.Common.{◌≡◌, ℕ, ◌==◌, length, map, get_or, nat_lt, if◌then◌else◌, Bool, true, false, refl, sym, subst}
 use Rattle.std.proofs.lemmas.Bool.{eqb-false, eqb-true}
-use Rattle.std.proofs.lemmas.List.{get_or-set_other, get_or-set_same, take_all}
+use Rattle.std.proofs.lemmas.List.{get_or-set_other, get_or-set_same}
 use Rattle.sig_hist.proofs.Entries.{leave_is_fine}
 use Rattle.sig_hist.specs.Changes.{reply_to}
-use Rattle.sig_hist.specs.OneThread.{OneThread, StaysWhereItWrites, after_leave, known, no_leaf, no_source, source_at, with_entry}
+use Rattle.sig_hist.specs.Plain.{OneThread, StaysWhereItWrites, after_leave, known, no_leaf, no_source, source_at, with_entry}
 use Rattle.sig_hist.specs.Ports.{GoesOn, IsSoundPort}
 use Rattle.sig_hist.specs.Sources.{IsIn, Source, content_of, entered, is_among, writers_of}
 use Rattle.sig_hist.specs.declared.edits.Edit.{Edit}
@@ -12,18 +12,19 @@ use Rattle.sig_hist.specs.declared.edits.Edit.TheVariants.{Leave}
 use Rattle.sig_hist.specs.declared.edits.Reply.{Reply}
 use Rattle.sig_hist.specs.declared.edits.Reply.TheVariants.{Fine}
 use Rattle.sig_report.proofs.Events.{map_at}
-use Rattle.sig_report.proofs.Growing.{Grows, closed_stays, grows_longer, grows_not, same_front}
+use Rattle.sig_hist.specs.Ways.{Grows}
+use Rattle.sig_rows.proofs.Growing.{grows_longer, grows_not}
 use Rattle.sig_report.proofs.Writers.{enters, goes_growing}
 use Rattle.sig_run.specs.Stages.{IsOpenTo}
-use Rattle.sig_view.specs.Tasks.{HasSeenMore}
+use Rattle.sig_walk.specs.Walking.{HasSeenMore}
 
 goes_on : (port later : OneThread) (source : ℕ) → Grows (source_at port source) (source_at later source) → GoesOn (known port) source (source_at later source).history (length (source_at later source).history)
 goes_on port later source grows =
     let before : Source = source_at port source in
     record {
-      front = same_front before (source_at later source) (length before.history) grows (omega arith) ∙ take_all (length before.history) before.history (omega arith);
+      front = grows.front;
       known = grows_longer before (source_at later source) grows;
-      closed = closed_stays before (source_at later source) grows;
+      closed = grows.closed;
     }
 
 seen_more : (port later : OneThread) → later.leaves ≡ port.leaves → ((source : ℕ) → Grows (source_at port source) (source_at later source)) → IsSoundPort (known later) → HasSeenMore (known port) (known later)

@@ -10,9 +10,9 @@ use Rattle.sig_expr.specs.Bounds.{cap_of}
 use Rattle.sig_expr.specs.Leaves.{leaves}
 use Rattle.sig_expr.specs.Shapes.{view_tree}
 use Rattle.sig_expr.specs.declared.expressions.View.{View}
-use Rattle.sig_hist.specs.OneThread.{OneThread, known, leaf_at, leaf_of, no_source, source_at, source_of}
+use Rattle.sig_hist.specs.Plain.{OneThread, known, leaf_at, leaf_of, no_source, source_at, source_of}
 use Rattle.sig_hist.specs.Ports.{IsSoundPort}
-use Rattle.sig_hist.specs.declared.plain.PlainLeaf.{PlainLeaf}
+use Rattle.sig_hist.specs.declared.bells.PlainLeaf.{PlainLeaf}
 use Rattle.sig_report.proofs.Allowing.{length_plans_of, plans_are}
 use Rattle.sig_report.proofs.Events.{map_at}
 use Rattle.sig_report.specs.Playing.{Watched}
@@ -153,7 +153,6 @@ module _ (script : Script) (unshared : script.shares ≡ []) (port : OneThread) 
             works = is.is_new.works;
             over = rw (is.no_rows, is.is_new.goes_on) refl;
             showing = rw is.is_new.no_row (is.no_rows, λ leaf within. is.is_new.lacks leaf (rw leaf_each at within));
-            shows = record { replay = rw (is.no_rows, tree) is.nothing };
           };
         }
 

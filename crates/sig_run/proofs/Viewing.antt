@@ -5,7 +5,7 @@ use Rattle.sig_expr.specs.Leaves.{numbered}
 use Rattle.sig_expr.specs.Shapes.{view_tree}
 use Rattle.sig_expr.specs.declared.expressions.VecExpr.{VecExpr}
 use Rattle.sig_expr.specs.declared.expressions.View.{View}
-use Rattle.sig_hist.specs.OneThread.{OneThread, known}
+use Rattle.sig_hist.specs.Plain.{OneThread, known}
 use Rattle.sig_hist.specs.Sources.{Source}
 use Rattle.sig_report.specs.Lawful.{all_views, sources_of}
 use Rattle.sig_report.specs.Playing.{Watched, polled, view_at}
@@ -14,7 +14,8 @@ use Rattle.sig_run.specs.Watching.{IsFollowing, IsShowing, sources_under, tree_o
 use Rattle.sig_run.specs.declared.watching.WatchedView.{WatchedView}
 use Rattle.sig_script.specs.declared.types.Script.{Script}
 use Rattle.sig_view.proofs.Later.{ready_later, same_holds}
-use Rattle.sig_view.specs.Tasks.{HasSeenMore, expression_of, first_of, has_row}
+use Rattle.sig_walk.specs.Walking.{HasSeenMore}
+use Rattle.sig_view.specs.Tasks.{expression_of, first_of, has_row}
 
 module _ (port later : OneThread) (more : HasSeenMore (known port) (known later)) where
   -- ---- one view
@@ -31,7 +32,6 @@ module _ (port later : OneThread) (more : HasSeenMore (known port) (known later)
       works = is.works;
       over = is.over;
       showing = showing_later (has_row view.task) is.showing;
-      shows = is.shows;
     }
 
   -- ---- all views

@@ -7,7 +7,7 @@ use Rattle.std.proofs.lemmas.Option.{slice_get_past, slice_get_within}
 use Rattle.std.specs.List.{list_all}
 use Rattle.sig_hist.proofs.Entries.{leave_is_fine}
 use Rattle.sig_hist.specs.Histories.{has_left, is_leave, own_entries}
-use Rattle.sig_hist.specs.OneThread.{OneThread, after_leave}
+use Rattle.sig_hist.specs.Plain.{OneThread, after_leave}
 use Rattle.sig_hist.specs.Sources.{Source, allowed, content_of, entered, is_among, made, writers_of}
 use Rattle.sig_hist.specs.declared.edits.Edit.{Edit}
 use Rattle.sig_hist.specs.declared.edits.Edit.TheVariants.{Leave}

@@ -1,4 +1,5 @@
 pub mod Watching
+pub mod Showing
 pub mod Reporting
 pub mod Stages
 pub mod Program

@@ -4,9 +4,9 @@ use Rattle.std.specs.List.{flat_map}
 use Rattle.sig_expr.specs.Leaves.{leaves}
 use Rattle.sig_expr.specs.Shapes.{view_tree}
 use Rattle.sig_expr.specs.declared.expressions.View.{View}
-use Rattle.sig_hist.specs.Counting.{MayEdit}
+use Rattle.sig_hist.specs.Sources.{MayEdit}
 use Rattle.sig_hist.specs.Histories.{is_leave}
-use Rattle.sig_hist.specs.OneThread.{OneThread, StaysWhereItWrites, known, source_at}
+use Rattle.sig_hist.specs.Plain.{OneThread, StaysWhereItWrites, known, source_at}
 use Rattle.sig_hist.specs.Ports.{IsSoundPort}
 use Rattle.sig_hist.specs.Sources.{IsIn}
 use Rattle.sig_hist.specs.declared.edits.Edit.{Edit}

@@ -4,16 +4,13 @@ use Rattle.sig_expr.specs.Leaves.{leaves}
 use Rattle.sig_expr.specs.Shapes.{view_tree}
 use Rattle.sig_expr.specs.Trees.{ViewTree}
 use Rattle.sig_expr.specs.declared.expressions.View.{View}
-use Rattle.sig_expr.specs.declared.shown.Shown.{Shown}
-use Rattle.sig_hist.specs.OneThread.{OneThread, known, leaf_at, no_source}
+use Rattle.sig_hist.specs.Plain.{OneThread, known, leaf_at, no_source}
 use Rattle.sig_hist.specs.Ports.{PortState}
 use Rattle.sig_hist.specs.Sources.{Source}
 use Rattle.sig_report.specs.Playing.{Watched}
 use Rattle.sig_run.specs.declared.watching.WatchedView.{WatchedView}
-use Rattle.sig_view.specs.SoundRows.{IsLawfulBody, IsShownBy, Seen, are_complete, nothing_seen, nothing_shown, replay_of, seen_of, tags_of}
+use Rattle.sig_rows.specs.SoundRows.{IsShownBy, Seen, are_complete, nothing_seen, seen_of, tags_of}
 use Rattle.sig_view.specs.Tasks.{IsNew, IsReady, contents_of, expression_of, first_of, has_row, is_ended, is_failed, lacks_leaf, positions_of, tags_at, view_of}
-use Rattle.sig_view.specs.declared.rows.Body.{Body}
-use Rattle.sig_view.specs.declared.rows.Body.TheVariants.{Ended}
 
 -- the sources of a view's leaves
 abbrev pub sources_under : List Source → ViewTree ℕ → List Source
@@ -24,15 +21,6 @@ tree_of view = view_tree (expression_of view.task)
 
 abbrev pub watched_of : WatchedView → Watched
 watched_of view = record { at = if has_row view.task then positions_of view.task else []; rows = view.rows }
-
--- a body that what is shown can go on by
-abbrev pub IsShowable : Shown → Body → Type 0
-IsShowable shown Ended = Unit {0}
-IsShowable shown body = IsLawfulBody shown body
-
--- what is kept is what the rows show
-pub record ShowsItsRows (view : WatchedView) : Type 0 where
-  pub replay : view.shown ≡ replay_of (nothing_shown (tree_of view)) view.rows
 
 -- what the rows have shown with their tags
 abbrev pub seen_by : WatchedView → Seen
@@ -51,10 +39,8 @@ pub record IsFollowing (port : OneThread) (view : WatchedView) : Type 0 where
   pub works : is_failed view.task ≡ false
   pub over : are_complete view.rows ≡ is_ended view.task
   pub showing : IsShowing (has_row view.task) (known port) view
-  pub shows : ShowsItsRows view
 
 -- a view before its first poll
 pub record IsFresh (shown : View) (caps : List ℕ) (first : ℕ) (view : WatchedView) : Type 0 where
   pub is_new : IsNew shown caps first view.task
   pub no_rows : view.rows ≡ []
-  pub nothing : view.shown ≡ nothing_shown (view_tree shown)

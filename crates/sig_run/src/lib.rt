@@ -5,11 +5,8 @@ mod gate;
 mod playing;
 mod program;
 mod reporting;
+mod showing;
 mod stage;
-#[cfg(test)]
-mod task_tests;
-#[cfg(test)]
-mod tests;
 mod watching;
 mod words;
 

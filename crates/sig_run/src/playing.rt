@@ -1,4 +1,4 @@
-ghost use Rattle.std.specs.Prelude.{◌≡◌, ◌<◌, ◌^◌, true, length, drop, All, None, IfOk, OnOk};
+ghost use Rattle.std.specs.Prelude.{◌≡◌, ◌<◌, ◌^◌, true, length, All, None, IfOk};
 ghost use Rattle.sig_report.specs.Playing.{play};
 ghost use Rattle.sig_script.specs.Built.{unbuilt};
 ghost use Rattle.sig_script.specs.Leaving.{has_no_leaves};
@@ -14,7 +14,7 @@ use std::alloc::Global;
 
 /// Plays a script on one thread: the events of the schedule, then what each writer has left, then each view
 /// to its end.
-#[tactic(auto, using(crate::proofs::Reported::reported_play))]
+#[tactic(auto, using(crate::proofs::Reported::play_over, crate::proofs::Reported::reported_play))]
 pub fn play(alloc: Global, script: &Script) -> Result<Report, NoMemory>
     requires built { unbuilt script.now ≡ None }
     requires in_order { StartsInOrder script.now }

@@ -1,8 +1,9 @@
 ghost use Rattle.std.specs.Prelude.{◌≡◌, ◌<◌, ◌^◌, length, All, IfOk};
 ghost use Rattle.sig_report.specs.Lawful.{kind_of_view};
-ghost use Rattle.sig_run.specs.Reporting.{report_of, reports_of, view_report_of, view_reports_of};
-ghost use Rattle.sig_run.specs.Watching.{ShowsItsRows};
+ghost use Rattle.sig_run.specs.Reporting.{AreOver, report_of, reports_of, view_report_of, view_reports_of};
+ghost use Rattle.sig_run.specs.Showing.{IsOver};
 
+use crate::showing::last_shown;
 use crate::watching::WatchedView;
 use sig_diff::{NoMemory, TryCopy};
 use sig_expr::View;
@@ -40,27 +41,34 @@ fn source_report(def: &SourceDef, source: SourceState) -> Result<SourceReport, N
     })
 }
 
-/// The reports of a script's views.
+/// The reports of a script's views, all of which are over, by the reports of its sources.
 pub fn view_reports(
     alloc: Global,
     defs: &[ViewDef],
     views: Vec<WatchedView>,
+    sources: &[SourceReport],
 ) -> Result<ViewReports, NoMemory>
-    requires { All ShowsItsRows views.items }
+    requires { AreOver sources.now defs.now views.items }
     ensures { IfOk result (λ reports. reports ≡ view_reports_of defs.now views.items) }
 {
     let mut reports = ViewReports::new(alloc);
     'views: for (def, view) in defs.iter().zip(views) {
-        reports.push(view_report(def, view)?)?;
+        reports.push(view_report(alloc, def, view, sources)?)?;
     }
     Ok(reports)
 }
 
-fn view_report(def: &ViewDef, view: WatchedView) -> Result<ViewReport, NoMemory>
-    requires { ShowsItsRows view }
+fn view_report(
+    alloc: Global,
+    def: &ViewDef,
+    view: WatchedView,
+    sources: &[SourceReport],
+) -> Result<ViewReport, NoMemory>
+    requires { IsOver sources.now def.now.view view.rows }
     ensures { IfOk result (λ report. report ≡ view_report_of def.now view) }
 {
-    let (rows, last) = view.into_rows();
+    let rows = view.into_rows();
+    let last = last_shown(alloc, &def.view, &rows, sources)?;
     Ok(ViewReport {
         name: def.name.copy()?,
         kind: kind_of(&def.view),

@@ -5,10 +5,10 @@ ghost use Rattle.sig_report.specs.Playing.{edits_of, with_edit, written};
 ghost use Rattle.sig_run.specs.Stages.{AreFresh, AreOpenTo, IsOpenTo, leaf_sources};
 ghost use Rattle.sig_expr.specs.Bounds.{cap_of};
 ghost use Rattle.sig_expr.specs.Leaves.{leaves};
-ghost use Rattle.sig_hist.specs.OneThread.{known};
+ghost use Rattle.sig_hist.specs.Plain.{known};
 ghost use Rattle.sig_hist.specs.Ports.{IsSoundPort};
 ghost use Rattle.sig_script.specs.Sizes.{views_size};
-ghost use Rattle.sig_view.specs.Tasks.{HasSeenMore};
+ghost use Rattle.sig_walk.specs.Walking.{HasSeenMore};
 ghost use Rattle.sig_script.specs.SelfContained.{has_event};
 
 use crate::reporting::{source_reports, view_reports};
@@ -31,7 +31,7 @@ pub struct Stage {
 }
 
 impl Stage {
-    ghost use Rattle.sig_report.specs.Playing.{by_view, by_writer, opened, scheduled, taken, times};
+    ghost use Rattle.sig_report.specs.Playing.{by_view, by_writer, opened, played, scheduled, taken, times};
     ghost use Rattle.sig_report.proofs.Endings.{ended_from, written_from};
     ghost use Rattle.sig_run.specs.Stages.{IsInStep, IsPlayable, played_of, reported};
 
@@ -159,17 +159,17 @@ impl Stage {
         self.poll(alloc, script, view)
     }
 
-    /// The report of the play so far.
+    /// The report of a play that is over.
     pub fn report(self, alloc: Global, script: &Script) -> Result<Report, NoMemory>
-        requires { IsInStep script.now self }
+        requires step { IsInStep script.now self }
+        requires over { played_of self ≡ played script.now }
         ensures report { IfOk result (λ report. report ≡ reported script.now (played_of self)) }
         ensures few { IfOk result (λ report. All (λ source. length source.history < 2 ^ 32) report.sources) }
     {
         let Stage { port, views, .. } = self;
-        Ok(Report {
-            sources: source_reports(alloc, script.sources.as_slice(), port.into_sources())?,
-            views: view_reports(alloc, script.views.as_slice(), views)?,
-        })
+        let sources = source_reports(alloc, script.sources.as_slice(), port.into_sources())?;
+        let views = view_reports(alloc, script.views.as_slice(), views, sources.as_slice())?;
+        Ok(Report { sources, views })
     }
 }
 
@@ -186,7 +186,8 @@ fn none_done(alloc: Global, writers: &[WriterDef]) -> Result<Vec<usize>, NoMemor
 
 /// The source of each leaf of the views.
 fn leaves_of(alloc: Global, defs: &[ViewDef]) -> Result<LeafList, NoMemory>
-    ensures { IfOk result (λ sources. sources ≡ leaf_sources defs.now) }
+    ensures sources { IfOk result (λ sources. sources ≡ leaf_sources defs.now) }
+    ensures few { IfOk result (λ sources. length sources < 2 ^ 64) }
 {
     let mut sources = Vec::new(alloc);
     'views: for def in defs {

@@ -1,31 +1,29 @@
 ghost use Rattle.std.specs.Prelude.{◌≡◌, ◌≤◌, ◌∷◌, ◌++◌, [], IfOk, OnOk};
-ghost use Rattle.sig_diff.specs.Replaying.{AreLawful, MapAreLawful, map_replayed, replayed};
 ghost use Rattle.sig_expr.specs.Bounds.{cap_of};
 ghost use Rattle.sig_expr.specs.Leaves.{numbered};
 ghost use Rattle.sig_expr.specs.Shapes.{view_tree};
-ghost use Rattle.sig_hist.specs.OneThread.{known};
+ghost use Rattle.sig_hist.specs.Plain.{known};
 ghost use Rattle.sig_report.specs.Playing.{polled};
-ghost use Rattle.sig_run.specs.Watching.{IsShowable, sources_under};
-ghost use Rattle.sig_view.specs.Longest.{longest};
-ghost use Rattle.sig_view.specs.SoundRows.{nothing_shown, replay_of, shown_after};
-ghost use Rattle.sig_view.specs.Tasks.{HasSeenMore, expression_of, positions_of};
+ghost use Rattle.sig_run.specs.Watching.{sources_under};
+ghost use Rattle.sig_rows.specs.Longest.{longest};
+ghost use Rattle.sig_walk.specs.Walking.{HasSeenMore};
+ghost use Rattle.sig_view.specs.Tasks.{expression_of, positions_of};
 
-use sig_diff::{Diffs, Entries, Items, MapDiffs, NoMemory, TryCopy, apply, map_apply};
-use sig_expr::{Caps, Shown, View};
+use sig_diff::{Items, NoMemory, TryCopy};
+use sig_expr::{Caps, View};
 use sig_hist::{Free, Plain};
 use sig_view::{Body, Polled, Positions, Row, Rows, ViewTask};
 use std::alloc::{AllocError, Global};
 
-/// A view that is played: the rows that its polls gave, and what they show.
+/// A view that is played, and the rows that its polls gave.
 #[derive(Drop)]
 pub struct WatchedView {
     task: ViewTask,
     rows: Rows,
-    shown: Shown,
 }
 
 impl WatchedView {
-    ghost use Rattle.sig_run.specs.Watching.{IsFollowing, IsFresh, ShowsItsRows, tree_of, watched_of};
+    ghost use Rattle.sig_run.specs.Watching.{IsFollowing, IsFresh, tree_of, watched_of};
 
     /// The view before its first row. Its leaf i is the port's leaf `first_leaf` + i.
     pub fn new(
@@ -40,18 +38,15 @@ impl WatchedView {
         Ok(WatchedView {
             task: ViewTask::new(alloc, view.copy()?, caps, first_leaf)?,
             rows: Rows::new(alloc),
-            shown: nothing_shown(alloc, view),
         })
     }
 
-    /// The rows, and what they show. It takes no memory.
-    pub fn into_rows(self) -> (Rows, Shown)
-        requires { ShowsItsRows self }
-        ensures rows { result.0 ≡ self.rows }
-        ensures shown { result.1 ≡ replay_of (nothing_shown (tree_of self)) self.rows }
+    /// The rows. It takes no memory.
+    pub fn into_rows(self) -> Rows
+        ensures { result ≡ self.rows }
     {
-        let WatchedView { rows, shown, .. } = self;
-        (rows, shown)
+        let WatchedView { rows, .. } = self;
+        rows
     }
 
     /// A poll of the view.
@@ -68,22 +63,13 @@ impl WatchedView {
             return Ok(());
         }
         match self.task.poll(port, Free) {
-            Polled::Batch { row, .. } => self.push_row(row),
+            Polled::Batch { row, .. } => self.rows.push(row),
             Polled::Pending => Ok(()),
             // The port of one thread finds no word held.
             Polled::Again { .. } => unreachable!(),
             Polled::Ended => self.push_end(alloc),
             Polled::NoMemory | Polled::Failed => Err(AllocError),
         }
-    }
-
-    /// Puts a row at the end of the rows.
-    fn push_row(&mut self, row: Row) -> Result<(), NoMemory>
-        requires { IsShowable self.old.shown row.body }
-        ensures { OnOk result (self.new ≡ record self.old { rows = self.old.rows ++ row ∷ []; shown = shown_after self.old.shown row.body }) }
-    {
-        show(&mut self.shown, &row.body)?;
-        self.rows.push(row)
     }
 
     /// Puts the ended row at the end of the rows.
@@ -96,59 +82,6 @@ impl WatchedView {
             body: Body::Ended,
         })
     }
-}
-
-/// What a view shows before its first row. It takes no memory.
-fn nothing_shown(alloc: Global, view: &View) -> Shown
-    ensures { result ≡ nothing_shown (view_tree view.now) }
-{
-    match view {
-        View::Signal(_) => Shown::Signal(0),
-        View::Vector(_) => Shown::Vector(Items::new(alloc)),
-        View::Map(_) => Shown::Map(Entries::new(alloc)),
-        View::Entries(_) => Shown::Pairs(Items::new(alloc)),
-        View::Enumerate(_) => Shown::Tagged(Items::new(alloc)),
-    }
-}
-
-/// Shows a row's body.
-fn show(shown: &mut Shown, body: &Body) -> Result<(), NoMemory>
-    requires { IsShowable shown.old body.now }
-    ensures { OnOk result (shown.new ≡ shown_after shown.old body.now) }
-{
-    match (shown, body) {
-        (Shown::Signal(old), Body::Signal(Some(value))) => {
-            *old = *value;
-            Ok(())
-        }
-        (Shown::Vector(items), Body::Vector(diffs)) => apply_all(items, diffs),
-        (Shown::Map(entries), Body::Map(diffs)) => map_apply_all(entries, diffs),
-        (Shown::Pairs(pairs), Body::Pairs(diffs)) => apply_all(pairs, diffs),
-        (Shown::Tagged(elements), Body::Tagged(diffs)) => apply_all(elements, diffs),
-        _ => Ok(()),
-    }
-}
-
-/// The list after differences of it.
-fn apply_all<T: Copy + Eq>(items: &mut Items<T>, diffs: &Diffs<T>) -> Result<(), NoMemory>
-    requires { AreLawful items.old diffs.now }
-    ensures { OnOk result (items.new ≡ replayed items.old diffs.now) }
-{
-    'diffs: for diff in diffs.as_slice() {
-        apply(items, diff)?;
-    }
-    Ok(())
-}
-
-/// The map after differences of it.
-fn map_apply_all(entries: &mut Entries<i64>, diffs: &MapDiffs<i64>) -> Result<(), NoMemory>
-    requires { MapAreLawful entries.old diffs.now }
-    ensures { OnOk result (entries.new ≡ map_replayed entries.old diffs.now) }
-{
-    'diffs: for diff in diffs.as_slice() {
-        map_apply(entries, diff)?;
-    }
-    Ok(())
 }
 
 fn copied(alloc: Global, positions: &[u32]) -> Result<Positions, NoMemory>

@@ -18,11 +18,7 @@ mod names;
 mod objects;
 mod paths;
 mod planning;
-#[cfg(test)]
-mod planning_tests;
 mod reader;
-#[cfg(test)]
-mod reader_tests;
 mod refusals;
 mod rooms;
 mod schedules;

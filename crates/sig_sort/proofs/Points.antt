@@ -12,8 +12,8 @@ use Rattle.sig_diff.specs.Sorting.{by_key, in_order, not_above}
 use Rattle.sig_diff.specs.declared.differences.VecDiff.{VecDiff}
 use Rattle.sig_diff.proofs.Sorting.{by_key_total, in_order_sorted, length_in_order}
 use Rattle.sig_diff.specs.declared.differences.VecDiff.TheVariants.{UpdateAt}
-use Rattle.sig_sort.specs.Sorted.{SortedList, sorted_of, sorted_by, element, rank, exchange, changes}
-use Rattle.sig_sort.specs.SortedTurns.{sorted_turns, rank_within}
+use Rattle.sig_sort.specs.Sorting.{sorted_by, element, rank, exchange, changes}
+use Rattle.sig_sort.specs.laws.Sorting.{sorted_leads, rank_within}
 
 module _ {T : Type 0} (test : T → Bool) where
   none_pass : (xs : List T) → ((k : ℕ) (d : T) → k < length xs → test (get_or xs k d) ≡ false) → count_by test xs ≡ 0
@@ -73,13 +73,10 @@ module _ (key : ℤ → ℤ) (xs ys : List ℤ) (is : ys ≡ in_order (by_key ke
   pub stays_short : length xs ≤ 65536 → length ys ≤ 65536
   stays_short short = omega (arith, short, length_in_order (by_key key) xs, ap length is)
 
-  -- the operator after a step
-  pub next_is : {M : Type 0} (mapper : M) (diff : VecDiff ℤ) (items sorted : List ℤ) → IsLawful diff (length xs) → items ≡ applied xs diff → sorted ≡ replayed ys (sorted_by key xs ys diff) →
-      let next : SortedList M = record { mapper = mapper; items = items; sorted = sorted } in
-      next ≡ sorted_of key mapper (applied xs diff)
-  next_is mapper diff items sorted lawful items_is sorted_is =
-      let turned : sorted ≡ in_order (by_key key) (applied xs diff) = sorted_is ∙ ap (λ zs. replayed zs (sorted_by key xs zs diff)) is ∙ (sorted_turns key xs diff lawful).replay in
-      λ i. record { mapper = mapper; items = items_is i; sorted = turned i }
+  -- the list in order after a difference
+  pub in_order_next : (diff : VecDiff ℤ) → IsLawful diff (length xs) →
+      replayed ys (sorted_by key xs ys diff) ≡ in_order (by_key key) (applied xs diff)
+  in_order_next diff lawful = ap (λ zs. replayed zs (sorted_by key xs zs diff)) is ∙ (sorted_leads key xs diff lawful).replay
 
   pub rank_below : (index place : ℕ) → index < length xs → place ≡ rank key ys (element key xs index) → place < length ys
   rank_below index place within at = rw (at, is) (rank_within key xs index within)

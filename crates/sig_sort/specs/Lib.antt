@@ -1,2 +1,2 @@
-pub mod Sorted
-pub mod SortedTurns
+pub mod Sorting
+pub mod laws

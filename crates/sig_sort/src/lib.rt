@@ -2,7 +2,5 @@
 #![tactic(auto)]
 
 mod sorting;
-#[cfg(test)]
-mod tests;
 
 pub use sorting::SortedOp;

@@ -3,7 +3,7 @@ ghost use Rattle.sig_diff.specs.Differences.{IsLawful, applied};
 ghost use Rattle.sig_diff.specs.Replaying.{replayed};
 ghost use Rattle.sig_diff.specs.Sorting.{below, by_key, in_order, not_above};
 ghost use Rattle.std.specs.List.Sorted.{IsSorted};
-ghost use Rattle.sig_sort.specs.Sorted.{changes, comes, element, exchange, rank, sorted_by};
+ghost use Rattle.sig_sort.specs.Sorting.{changes, comes, element, exchange, rank, sorted_by, sorted_gives};
 
 use sig_diff::{Diffs, Items, Mapper, NoMemory, VecDiff, apply, in_order};
 use sig_ops::VecOp;
@@ -11,29 +11,34 @@ use std::alloc::Global;
 use std::cmp::Ordering;
 use std::marker::Model;
 
-/// The numbers in the order of their images. Contracts see it as its function, the list that it stands for, and that list in
-/// order.
+/// The numbers in the order of their images. Contracts see it as its function and the list that it stands for.
+///
+/// By the remainder of 3 it shows the list 4, 1, 3 as 3, 1, 4. For a push of 2 it then gives an insertion of 2 at 3.
 #[derive(Debug, Drop)]
-pub struct SortedOp<M> {
+pub struct SortedOp<M: Mapper<i64, i64>> {
     mapper: M,
     items: Items<i64>,
+    /// The items in order.
     sorted: Items<i64>,
 }
 
-impl<M> Model for SortedOp<M> {
-    ghost use Rattle.sig_sort.specs.Sorted.{SortedList};
+impl<M: Mapper<i64, i64>> Model for SortedOp<M> {
+    ghost use Rattle.std.specs.Prelude.{◌≡◌};
+    ghost use Rattle.sig_diff.specs.Sorting.{by_key, in_order};
+    ghost use Rattle.sig_sort.specs.Sorting.{SortedList};
 
     ghost Value = { SortedList M };
 
-    ghost view = { λ op. record { mapper = op.mapper; items = op.items; sorted = op.sorted } };
+    ghost view = { λ op. record { mapper = op.mapper; items = op.items } };
+
+    ghost invariant = { λ op. op.sorted ≡ in_order (by_key (M.maps op.mapper)) op.items };
 }
 
-impl<M> SortedOp<M> {
+impl<M: Mapper<i64, i64>> SortedOp<M> {
     /// The sorted view by a function, not yet started. It takes no memory.
     pub fn new(alloc: Global, mapper: M) -> SortedOp<M>
         ensures mapper { result.mapper ≡ mapper }
         ensures items { result.items ≡ [] }
-        ensures sorted { result.sorted ≡ [] }
     {
         SortedOp {
             mapper,
@@ -44,12 +49,12 @@ impl<M> SortedOp<M> {
 }
 
 impl<M: Mapper<i64, i64>> VecOp for SortedOp<M> {
-    ghost use Rattle.std.specs.Prelude.{◌≡◌, ◌≤◌, length, refl};
+    ghost use Rattle.std.specs.Prelude.{◌≡◌, refl};
     ghost use Rattle.std.proofs.Common.{rules, ap};
-    ghost use Rattle.sig_diff.specs.Differences.{IsLawful, applied};
+    ghost use Rattle.sig_diff.specs.Differences.{applied};
     ghost use Rattle.sig_diff.specs.Sorting.{by_key, in_order};
-    ghost use Rattle.sig_sort.specs.Sorted.{sorted_gives, sorted_next, sorted_of};
-    ghost use Rattle.sig_sort.specs.SortedTurns.{SortedStep, StandsFor, sorted_turns, sorted_is_short, stands_next, may_step};
+    ghost use Rattle.sig_sort.specs.Sorting.{SortedStep, sorted_gives, sorted_next, sorted_of};
+    ghost use Rattle.sig_sort.specs.laws.Sorting.{sorted_leads, sorted_is_short, sorted_may_step};
 
     type In = i64;
 
@@ -57,27 +62,28 @@ impl<M: Mapper<i64, i64>> VecOp for SortedOp<M> {
 
     ghost can_start = { λ op. M.can_call op.mapper };
 
-    ghost stands_for = { λ op xs. M.can_call op.mapper × StandsFor (M.maps op.mapper) op xs };
+    ghost stands_for = { λ op xs. M.can_call op.mapper × (op.items ≡ xs) };
 
     ghost view = { λ op xs. in_order (by_key (M.maps op.mapper)) xs };
 
     ghost tags = { λ op. 0 };
 
-    ghost started = { λ op xs. sorted_of (M.maps op.mapper) op.mapper xs };
+    ghost started = { λ op xs. sorted_of op.mapper xs };
 
-    ghost can_step = { λ op diff. M.can_call op.mapper × SortedStep (M.maps op.mapper) op diff };
+    ghost can_step = { λ op diff. M.can_call op.mapper × SortedStep op diff };
 
     ghost gives = { λ op diff. sorted_gives (M.maps op.mapper) op.items diff };
 
-    ghost next = { λ op diff. sorted_next (M.maps op.mapper) op diff };
+    ghost next = { λ op diff. sorted_next op diff };
 
-    ghost turns = { λ op xs diff stands lawful. rw stands.1.items (sorted_turns (M.maps op.mapper) xs diff lawful) };
+    ghost leads = { λ op xs diff stands lawful. rw stands.1 (sorted_leads (M.maps op.mapper) xs diff lawful) };
 
-    ghost stands_at_start = { λ op xs can. (can, record { items = refl; sorted = refl }) };
+    ghost stands_at_start = { λ op xs can. (can, refl) };
 
-    ghost stands_after = { λ op xs diff stands lawful. (stands.0, stands_next (M.maps op.mapper) op xs diff stands.1) };
+    ghost stands_after = { λ op xs diff stands lawful. (stands.0, ap (λ items. applied items diff) stands.1) };
 
-    ghost steps_where_lawful = { λ op xs diff stands lawful short short_after few. (stands.0, may_step (M.maps op.mapper) op xs diff stands.1 lawful short) };
+    ghost steps_where_lawful = { λ op xs diff stands lawful short short_after few.
+        (stands.0, sorted_may_step op xs diff stands.1 lawful short) };
 
     ghost view_is_short = { λ op xs stands. sorted_is_short (M.maps op.mapper) xs };
 
@@ -86,21 +92,43 @@ impl<M: Mapper<i64, i64>> VecOp for SortedOp<M> {
     ghost few_tags_a_step = { Prim.search rules };
 
     fn start(&mut self, items: &Items<i64>) -> Result<Items<i64>, NoMemory> {
-        self.items = items.copy()?;
-        self.sorted = in_order(&self.mapper, items.copy()?);
-        self.sorted.copy()
+        let kept = items.copy()?;
+        let sorted = in_order(&self.mapper, items.copy()?);
+        let shown = sorted.copy()?;
+        self.items = kept;
+        self.sorted = sorted;
+        Ok(shown)
     }
 
     fn step(&mut self, diff: &VecDiff<i64>, given: &mut Diffs<i64>) -> Result<(), NoMemory> {
-        sorted(
-            &self.mapper,
-            self.items.as_slice(),
-            &mut self.sorted,
-            diff,
-            given,
-        )?;
-        apply(&mut self.items, diff)
+        if let Err(error) = follow(&self.mapper, &mut self.items, &mut self.sorted, diff, given) {
+            // One list may have taken the difference, and the other not.
+            self.items.clear();
+            self.sorted.clear();
+            return Err(error);
+        }
+        Ok(())
     }
+}
+
+/// Adds what the sorted view gives for a difference, which both lists take.
+fn follow<M: Mapper<i64, i64>>(
+    mapper: &M,
+    items: &mut Items<i64>,
+    numbers: &mut Items<i64>,
+    diff: &VecDiff<i64>,
+    given: &mut Diffs<i64>,
+) -> Result<(), NoMemory>
+    requires can_call { M.can_call mapper.now }
+    requires lawful { IsLawful diff.now (length items.old) }
+    requires short { length items.old ≤ 65536 }
+    requires in_order { numbers.old ≡ in_order (by_key (M.maps mapper.now)) items.old }
+    ensures given { OnOk result (given.new ≡ given.old ++ sorted_gives (M.maps mapper.now) items.old diff.now) }
+    ensures items { OnOk result (items.new ≡ applied items.old diff.now) }
+    ensures in_order { OnOk result (numbers.new ≡ in_order (by_key (M.maps mapper.now)) items.new) }
+{
+    sorted(mapper, items.as_slice(), numbers, diff, given)?;
+    apply(items, diff)
 }
 
 /// How a number stands to another by their images, and then by themselves.

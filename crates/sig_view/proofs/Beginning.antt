@@ -1,31 +1,34 @@
 -- A view's task before its first poll, and what the polls before its first row answer.
 use Rattle.std.proofs.Common.{◌≡◌, ◌∙◌, ℕ, zero, suc, ◌+◌, ◌<◌, ◌≤◌, ◌^◌, List, length, slice_get, replicate, true, false, Option, None, Some, refl, sym, ap, arith, zero-le, le_trans, slice_index}
-use Rattle.std.proofs.lemmas.List.{length-map, length-replicate}
+use Rattle.std.proofs.lemmas.List.{length-replicate}
 use Rattle.std.proofs.lemmas.Option.{slice_get_within}
 use Rattle.sig_diff.specs.declared.contents.Content.{Content}
 use Rattle.sig_expr.specs.Bounds.{cap_of}
 use Rattle.sig_expr.specs.Leaves.{leaves}
 use Rattle.sig_expr.specs.Shapes.{view_tree}
 use Rattle.sig_expr.specs.Trees.{ViewTree}
-use Rattle.sig_expr.specs.declared.expressions.View.{View}
 use Rattle.sig_hist.specs.Ports.{IsSoundPort, PortState}
-use Rattle.sig_view.proofs.AllTried.{is_there}
-use Rattle.sig_view.proofs.FirstRows.{all_fetched, leaf_within}
-use Rattle.sig_view.proofs.Numbering.{same_leaves, view_short, within_caps}
+use Rattle.sig_view.proofs.Stepping.{keeps_looked, ready_again}
+use Rattle.sig_walk.proofs.Leaving.{polled_by_looks}
+use Rattle.sig_walk.proofs.AllTried.{is_there}
+use Rattle.sig_walk.proofs.Fetched.{all_fetched}
+use Rattle.sig_nodes.proofs.FirstRows.{leaf_within}
+use Rattle.sig_rows.proofs.Numbering.{same_leaves, view_short, within_caps}
 use Rattle.sig_view.specs.FirstPolls.{HasBegun}
-use Rattle.sig_view.specs.Fetching.{AreFetched, HasTried, LacksBy, at_start, content_in, is_missing, is_nothing}
-use Rattle.sig_view.specs.Longest.{longest}
-use Rattle.sig_view.specs.Nodes.{view_ops}
-use Rattle.sig_view.specs.Polling.{HasFetched, HasPolled, IsPoll, IsSameTask}
-use Rattle.sig_view.specs.SoundRows.{AreWithin, IsFirstRow, nothing_seen, seen_after, tags_of}
-use Rattle.sig_view.specs.Starting.{IsViewStarted, leaf_length}
+use Rattle.sig_walk.specs.Fetching.{AreFetched, HasTried, LacksBy, at_start, content_in, is_missing, is_nothing}
+use Rattle.sig_rows.specs.Longest.{longest}
+use Rattle.sig_nodes.specs.Nodes.{view_ops}
+use Rattle.sig_view.specs.Polling.{HasFetched, IsPoll, IsSameTask}
+use Rattle.sig_hist.specs.Ways.{AreWithin}
+use Rattle.sig_rows.specs.SoundRows.{IsFirstRow, nothing_seen, seen_after, tags_of}
+use Rattle.sig_nodes.specs.Starting.{IsViewStarted, leaf_length}
 use Rattle.sig_view.specs.Tasks.{CanPoll, Holds, IsNew, IsReady, begun, contents_got, contents_of, ended, failed, has_row, is_lacking, positions_of, rows_given, sources_of, tags_at, view_of}
-use Rattle.sig_view.specs.Walking.{CanWalk, HasGone, HasLooked, IsFresh, Progress, seen_sources, set_out}
-use Rattle.sig_view.specs.declared.nodes.ViewNode.{ViewNode}
-use Rattle.sig_view.specs.declared.rows.Row.{Row}
+use Rattle.sig_walk.specs.Walking.{CanWalk, HasGone, IsFresh, seen_sources, set_out}
+use Rattle.sig_nodes.specs.declared.nodes.ViewNode.{ViewNode}
+use Rattle.sig_rows.specs.declared.rows.Row.{Row}
 use Rattle.sig_view.specs.declared.task.Polled.TheVariants as polled
 use Rattle.sig_view.specs.declared.task.Stage.{Stage}
-use Rattle.sig_view.specs.declared.task.Stage.TheVariants.{Fetching, Following, Failed}
+use Rattle.sig_view.specs.declared.task.Stage.TheVariants.{Fetching, Following}
 use Rattle.sig_view.specs.declared.task.ViewTask.{ViewTask}
 
 -- ---- before the first poll
@@ -104,33 +107,6 @@ pub count_each : (s : PortState) (task : ViewTask) → IsReady s task → begun 
 count_each s task ready before =
     (holds_fetched (contents_of s task) (view_of task) task.stage before ready.holds).each ∙ same_leaves (view_tree task.view) ∙ sym ready.is_task.leaf_each
 
-pub can_set_out : (s : PortState) (walk : Progress) → CanWalk s walk → CanWalk s (set_out walk)
-can_set_out s walk can = record { sound = can.sound; numbers = can.numbers; own = can.own; within = can.within; marks = length-map walk.marks _ ∙ can.marks }
-
-pub still_pollable : (s t : PortState) (view : View) (caps : List ℕ) (first : ℕ) → HasLooked s t → IsSoundPort t → CanPoll s view caps first → CanPoll t view caps first
-still_pollable s t view caps first looked sound can = record {
-  sound = sound;
-  numbers = can.numbers;
-  own = λ leaf below. rw looked.is_own (can.own leaf below);
-  one_task = λ leaf below. rw looked.task (can.one_task leaf below);
-  within_caps = λ leaf below. rw (looked.plan, looked.source) (can.within_caps leaf below);
-}
-
-has_polled : (s t : PortState) (walk : Progress) → HasLooked s t → HasPolled s t walk false
-has_polled s t walk looked = record {
-  is_own = looked.is_own;
-  source = looked.source;
-  task = looked.task;
-  plan = looked.plan;
-  missed = looked.missed;
-  seen = looked.seen;
-  met = looked.met;
-  tokens = looked.tokens;
-  arms = λ leaf other. rw looked.arms refl;
-  rises = λ leaf. rw looked.arms (omega arith);
-  waits = λ leaf version other waits. looked.waits leaf version waits;
-}
-
 -- the lists that the operators start on are short
 pub starts_short : (t : PortState) (task : ViewTask) (contents : List (Option Content)) → IsReady t task → content_in contents ≡ contents_of t task → longest (leaf_length (content_in contents)) (view_of task) ≤ 65536
 starts_short t task contents ready all =
@@ -146,22 +122,7 @@ starts_short t task contents ready all =
 
 module _ (s t : PortState) (old new : ViewTask) (ready : IsReady s old) (before : begun old.stage ≡ false) (same : IsSameTask old new) (gone : HasGone s t old.walk new.walk) where
   ready_after : Holds (contents_of t new) (view_of new) new.stage → IsReady t new
-  ready_after holds = record {
-    is_task = record { short = rw (same.view, same.caps) ready.is_task.short; leaf_each = rw same.view (gone.leaves ∙ ready.is_task.leaf_each) };
-    port = rw (same.view, same.caps, same.first) (still_pollable s t old.view old.caps.value old.walk.first gone.looked gone.can.sound ready.port);
-    can = gone.can;
-    holds = holds;
-  }
-
-  -- for want of memory
-  pub poll_failed : {T : Type 0} (told : T) → new.stage ≡ Failed false → IsPoll {T = T} s t old new told polled.NoMemory
-  poll_failed told is = record {
-    ready = ready_after (rw is tt);
-    same = same;
-    polled = has_polled s t old.walk gone.looked;
-    next = record { refused = sym (no_failure old.stage before); failed = rw (is, no_failure old.stage before) refl; ended = rw is refl; row = rw (is, no_row old.stage before) refl };
-    answer_is = tt;
-  }
+  ready_after holds = ready_again s t old new ready (keeps_looked s t gone.looked) same gone.leaves gone.can holds
 
   module _ (contents : List (Option Content)) (tried : HasTried s t (set_out old.walk) new.walk (contents_got old.stage) contents (length (contents_got old.stage))) where
     lacking_fresh : (leaf : ℕ) → is_missing (contents_got old.stage) leaf ≡ true → IsFresh s t new.walk leaf
@@ -186,7 +147,7 @@ module _ (s t : PortState) (old new : ViewTask) (ready : IsReady s old) (before 
         record {
           ready = ready_after (fetched_holds (contents_of t new) (view_of new) new.stage fetching (rw got are));
           same = same;
-          polled = has_polled s t old.walk gone.looked;
+          polled = polled_by_looks s t old.walk gone.looked;
           next = record {
             refused = sym (no_failure old.stage before);
             failed = rw (no_failure old.stage before) (no_failure new.stage fetching);
@@ -228,7 +189,7 @@ module _ (s t : PortState) (old new : ViewTask) (ready : IsReady s old) (before 
         record {
           ready = ready_after (rw is (stands.tree_is, stands.stands));
           same = same;
-          polled = has_polled s t old.walk gone.looked;
+          polled = polled_by_looks s t old.walk gone.looked;
           next = record { refused = sym (no_failure old.stage before); failed = rw (is, no_failure old.stage before) refl; ended = rw is refl; row = rw (is, no_row old.stage before) refl };
           answer_is = record { at = at; sound = rw no_row_yet (first, has_fetched, tags); same_token = refl; first_held = sym held ∙ tried.held };
         }

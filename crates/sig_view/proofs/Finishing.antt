@@ -1,31 +1,31 @@
 -- Polls after the first row: one walk, or two with a look between them, and the answer.
 use Rattle.std.specs.List.{slice_get}
-use Rattle.std.proofs.Common.{◌≡◌, ◌∙◌, ℕ, zero, suc, ◌+◌, ◌<◌, ◌≤◌, List, [], ◌∷◌, length, take, drop, map, get_or, slice_index, Bool, true, false, Option, None, Some, refl, sym, ap, arith, le_trans}
+use Rattle.std.proofs.Common.{◌≡◌, ◌∙◌, ℕ, zero, suc, ◌+◌, ◌≤◌, List, [], ◌∷◌, length, take, drop, map, get_or, slice_index, Bool, true, false, Option, None, Some, refl, sym, ap, arith, le_trans}
 use Rattle.std.proofs.lemmas.List.{append-nil, take-append-drop}
 use Rattle.std.proofs.lemmas.Option.{get_or_from_slice_get, slice_get_within}
 use Rattle.sig_expr.specs.Awaited.{awaits}
 use Rattle.sig_hist.specs.Ports.{GoesOn, IsSoundPort, PortState}
 use Rattle.sig_hist.specs.Sources.{is_among}
 use Rattle.sig_hist.specs.declared.ports.Met.{Met}
-use Rattle.sig_view.proofs.Leaving.{polled_again, polled_by_looks, polled_not, polled_of}
-use Rattle.sig_view.proofs.Listening.{not_closed, open_within, same_sources}
-use Rattle.sig_view.proofs.Staying.{seen_no_less}
-use Rattle.sig_view.proofs.Stepping.{KeepsPort, before_is, moved_on, next_row, next_tags, ready_again, tags_stay, underway}
+use Rattle.sig_walk.proofs.Leaving.{polled_again, polled_by_looks, polled_not, polled_of}
+use Rattle.sig_walk.proofs.Listening.{not_closed, same_sources}
+use Rattle.sig_view.proofs.Stepping.{KeepsPort, before_is, moved_on, next_tags, ready_again, sound_row, tags_stay, underway}
 use Rattle.sig_view.specs.GoingOn.{HasGoneOn, HasLost, HasStepped, IsBehind}
-use Rattle.sig_view.specs.Polling.{HasPolled, HasStayed, IsAtEnd, IsAtRest, IsLaterRow, IsNext, IsPoll, IsSameTask}
-use Rattle.sig_view.specs.SoundRows.{IsNextRow, IsShownBy, Seen, contents_at, is_awaited}
+use Rattle.sig_walk.specs.Waiting.{HasPolled, CanWait, HasListened, HasNews, HasRested, IsLast, IsLastOpen, is_open_leaf, is_open_mark}
+use Rattle.sig_view.specs.Polling.{HasStayed, IsAtEnd, IsAtRest, IsLaterRow, IsNext, IsPoll, IsSameTask}
+use Rattle.sig_rows.specs.SoundRows.{IsNextRow, IsShownBy, Seen, is_awaited}
+use Rattle.sig_hist.specs.Ways.{contents_at}
 use Rattle.sig_view.specs.Tasks.{IsReady, IsTask, contents_of, is_following, positions_of, sources_of, tags_at, view_of}
-use Rattle.sig_view.specs.Waiting.{CanWait, HasListened, HasNews, HasRested, IsLast, IsLastOpen, is_open_leaf, is_open_mark}
-use Rattle.sig_view.specs.Walking.{IsCaughtUp, IsFresh, first_word, is_seen_closed, mark_of, met_since, was_held}
-use Rattle.sig_view.specs.declared.rows.Body.{Body}
-use Rattle.sig_view.specs.declared.rows.Row.{Row}
+use Rattle.sig_walk.specs.Walking.{IsCaughtUp, IsFresh, first_word, is_seen_closed, mark_of, met_since, was_held}
+use Rattle.sig_rows.specs.declared.rows.Body.{Body}
+use Rattle.sig_rows.specs.declared.rows.Row.{Row}
 use Rattle.sig_view.specs.declared.task.Going.TheVariants.{Answered, Nowhere}
 use Rattle.sig_view.specs.declared.task.Polled.{Polled}
 use Rattle.sig_view.specs.declared.task.Polled.TheVariants as polled
 use Rattle.sig_view.specs.declared.task.Stage.TheVariants.{Ended}
 use Rattle.sig_view.specs.declared.task.ViewTask.{ViewTask}
-use Rattle.sig_view.specs.declared.walk.Mark.{Mark}
-use Rattle.sig_view.specs.declared.walk.Mark.TheVariants.{Skipped}
+use Rattle.sig_walk.specs.declared.walk.Mark.{Mark}
+use Rattle.sig_walk.specs.declared.walk.Mark.TheVariants.{Skipped}
 
 -- ---- between the walks of a poll
 
@@ -57,8 +57,8 @@ pub fresh_since : (s t u : PortState) (task : ViewTask) (leaf : ℕ) → t.met �
 fresh_since s t u task leaf met source seen fresh held =
     let at : ℕ = task.walk.first + leaf in
     let held_later : was_held t u at ≡ false = rw met held in
-    let later : length (t.seen (s.source at)) ≤ slice_index task.walk.positions leaf = rw source at (fresh held_later) in
-    le_trans (seen_no_less s (s.source at) (t.seen (s.source at)) (t.count (s.source at)) (seen (s.source at))) later
+    let later : t.count (s.source at) ≤ slice_index task.walk.positions leaf = rw source at (fresh held_later) in
+    le_trans (seen (s.source at)).known later
 
 -- ---- what the port is after a poll, and how the task goes on
 
@@ -69,8 +69,8 @@ going_on old new word told follows still =
     let is = underway new.stage still in
     record { refused = sym was.no_failure; failed = rw (is.no_failure, was.no_failure) refl; ended = is.no_end; row = rw (is.rows, was.rows) refl }
 
-batch_goes_on : {T : Type 0} (old new : ViewTask) (row : Row) (held : Option ℕ) (told : T) → is_following old ≡ true → is_following new ≡ true → IsNext old new (polled.Batch row told held)
-batch_goes_on old new row held told follows still =
+row_goes_on : {T : Type 0} (old new : ViewTask) (row : Row) (held : Option ℕ) (told : T) → is_following old ≡ true → is_following new ≡ true → IsNext old new (polled.Batch row told held)
+row_goes_on old new row held told follows still =
     let was = underway old.stage follows in
     let is = underway new.stage still in
     record { refused = sym was.no_failure; failed = rw (is.no_failure, was.no_failure) refl; ended = is.no_end; row = rw (is.rows, was.rows) refl }
@@ -108,7 +108,7 @@ module _ (s t u : PortState) (old mid new : ViewTask) (follows : is_following ol
     later_row : (row : Row) → row.body ≡ body → row.at ≡ positions_of new → new.walk.moved ≡ true → IsLaterRow s u old new row
     later_row row same_body at moved = record {
       sound = λ seen shows_it tags.
-          let next : IsNextRow (view_of mid) (sources_of u new) (positions_of mid) seen (positions_of new) body = next_row t u mid new body ready stepped seen (shown_there seen shows_it) (tags ∙ sym paused.tags) moved in
+          let next : IsNextRow (view_of mid) (sources_of u new) (positions_of mid) seen (positions_of new) body = sound_row t u mid new body ready stepped seen (shown_there seen shows_it) (tags ∙ sym paused.tags) moved in
           rw (at, same_body) (rw (same_view, paused.stays) at next);
       tags = λ seen shows_it tags. rw same_body (next_tags t u mid new body ready stepped seen (shown_there seen shows_it) (tags ∙ sym paused.tags));
       fresh = fresh_each;
@@ -119,7 +119,7 @@ module _ (s t u : PortState) (old mid new : ViewTask) (follows : is_following ol
       ready = stepped.ready;
       same = same_task old mid new paused.same stepped.same;
       polled = polled_on (polled_by_looks t u mid.walk stepped.looked);
-      next = batch_goes_on old new row held token follows stepped.follows;
+      next = row_goes_on old new row held token follows stepped.follows;
       answer_is = record {
         at = at;
         sound = rw (underway old.stage follows).rows (later_row row same_body at moved);
@@ -177,7 +177,7 @@ module _ (t u : PortState) (mid : ViewTask) (rests : Bool) (listened : HasListen
   pub still_ready : IsReady t mid → IsSoundPort u → IsReady u mid
   still_ready ready sound =
       let keeps : KeepsPort t u = record { is_own = listened.polled.is_own; source = listened.polled.source; task = listened.polled.task; plan = listened.polled.plan } in
-      ready_again t u mid mid.walk mid.stage ready keeps refl refl
+      ready_again t u mid mid ready keeps (record { view = refl; caps = refl; first = refl }) refl
       (record { sound = sound; numbers = ready.can.numbers; own = λ leaf within. rw listened.polled.is_own (ready.can.own leaf within); within = rw same_leaves ready.can.within; marks = ready.can.marks })
       (rw same_leaves ready.holds)
 
@@ -225,9 +225,6 @@ module _ (s t : PortState) (old mid : ViewTask) (follows : is_following old ≡ 
 
   pub opens_among : (leaf : ℕ) → is_open_leaf mid.walk leaf ≡ true → IsAmong leaf
   opens_among leaf opens = rw stepped.same.view (open_among leaf _ refl opens)
-
-  within_positions : (leaf : ℕ) → is_open_leaf mid.walk leaf ≡ true → leaf < length (positions_of mid)
-  within_positions leaf opens = omega (arith, open_within mid.walk.marks leaf opens, stepped.ready.can.marks)
 
   pub can_wait : CanWait t mid.walk
   can_wait = record {
@@ -279,7 +276,7 @@ module _ (s t : PortState) (old mid : ViewTask) (follows : is_following old ≡ 
       let new : ViewTask = moved_on mid mid.walk Ended in
       let keeps : KeepsPort t t = record { is_own = refl; source = refl; task = refl; plan = refl } in
       record {
-        ready = ready_again t t mid mid.walk Ended stepped.ready keeps refl refl stepped.ready.can tt;
+        ready = ready_again t t mid new stepped.ready keeps (record { view = refl; caps = refl; first = refl }) refl stepped.ready.can tt;
         same = record { view = stepped.same.view; caps = stepped.same.caps; first = stepped.same.first };
         polled = polled_by_looks s t old.walk stepped.looked;
         next = record { refused = sym was.no_failure; failed = rw was.no_failure refl; ended = refl; row = rw was.rows refl };

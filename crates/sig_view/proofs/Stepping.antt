@@ -9,19 +9,21 @@ use Rattle.sig_expr.specs.Trees.{ViewTree, signal_view, vector_view, map_view, e
 use Rattle.sig_hist.specs.Ports.{PortState}
 use Rattle.sig_hist.specs.Sources.{AreDistinct, Source}
 use Rattle.sig_ops.specs.Enumerating.{Enumeration}
-use Rattle.sig_view.proofs.Leading.{BodyLeads, view_leads}
-use Rattle.sig_view.proofs.Still.{still_list}
-use Rattle.sig_view.proofs.Composing.{goes_ahead}
-use Rattle.sig_view.proofs.Numbering.{has_leaves as all_leaves, leaves_differ, view_short, within_caps}
-use Rattle.sig_view.proofs.Staying.{same_contents, source_of_leaf}
-use Rattle.sig_view.specs.Flow.{GoesAhead, Way, flow, tags_after, with_tags}
-use Rattle.sig_view.specs.GoingOn.{HasLost, HasStepped, failed_now}
-use Rattle.sig_view.specs.Longest.{longest}
-use Rattle.sig_view.specs.Nodes.{ViewStands, op_tags, view_tree_of}
-use Rattle.sig_view.specs.SoundRows.{GoOn, IsNextRow, IsShownBy, Seen, contents_at, seen_after, tags_of, ways}
+use Rattle.sig_rows.proofs.Showing.{next_reaches, next_row}
+use Rattle.sig_rows.proofs.Still.{still_list}
+use Rattle.sig_rows.proofs.Numbering.{has_leaves as all_leaves, leaves_differ, view_short, within_caps}
+use Rattle.sig_hist.specs.Changes.{IsInOrder}
+use Rattle.sig_walk.proofs.Staying.{same_contents, seen_in_order, source_of_leaf}
+use Rattle.sig_hist.specs.Ways.{Way, GoOn, contents_at, leaf_source, ways}
+use Rattle.sig_rows.specs.Flow.{flow, tags_after, with_tags}
+use Rattle.sig_view.specs.GoingOn.{HasLost, HasStepped}
+use Rattle.sig_rows.specs.Longest.{longest}
+use Rattle.sig_nodes.specs.Nodes.{ViewStands, op_tags, view_tree_of}
+use Rattle.sig_rows.specs.SoundRows.{IsNextRow, IsShownBy, Seen, seen_after, tags_of}
+use Rattle.sig_view.specs.Polling.{IsSameTask}
 use Rattle.sig_view.specs.Tasks.{CanPoll, Holds, IsReady, IsTask, contents_of, ended, failed, following, is_following, ops_of, positions_of, rows_given, sources_of, tags_at, view_of}
-use Rattle.sig_view.specs.Walking.{CanWalk, HasGone, HasLeaves, HasLooked, HasWalked, Progress, cap_at, set_out, sources_in}
-use Rattle.sig_view.specs.declared.rows.Body.{Body}
+use Rattle.sig_walk.specs.Walking.{CanWalk, HasGone, HasLeaves, HasLooked, HasWalked, Progress, cap_at, set_out, sources_in}
+use Rattle.sig_rows.specs.declared.rows.Body.{Body}
 use Rattle.sig_view.specs.declared.task.Stage.{Stage}
 use Rattle.sig_view.specs.declared.task.Stage.TheVariants.{Fetching, Following, Ended, Failed}
 use Rattle.sig_view.specs.declared.task.ViewTask.{ViewTask}
@@ -87,18 +89,18 @@ pub record KeepsPort (s t : PortState) : Type 0 where
 abbrev pub moved_on : ViewTask → Progress → Stage → ViewTask
 moved_on task walk stage = record task { walk = walk; stage = stage }
 
-pub ready_again : (s t : PortState) (old : ViewTask) (walk : Progress) (stage : Stage) → IsReady s old → KeepsPort s t → walk.first ≡ old.walk.first → length walk.positions ≡ length old.walk.positions → CanWalk t walk →
-    Holds (contents_at (sources_in t walk) walk.positions) (view_of old) stage → IsReady t (moved_on old walk stage)
-ready_again s t old walk stage ready keeps first same_length can holds =
+pub ready_again : (s t : PortState) (old new : ViewTask) → IsReady s old → KeepsPort s t → IsSameTask old new → length (positions_of new) ≡ length (positions_of old) → CanWalk t new.walk →
+    Holds (contents_of t new) (view_of new) new.stage → IsReady t new
+ready_again s t old new ready keeps same leaves can holds =
     let port = ready.port in
     record {
-      is_task = record { short = ready.is_task.short; leaf_each = same_length ∙ ready.is_task.leaf_each };
+      is_task = record { short = rw (same.view, same.caps) ready.is_task.short; leaf_each = rw same.view (leaves ∙ ready.is_task.leaf_each) };
       port = record {
         sound = can.sound;
-        numbers = rw first port.numbers;
-        own = λ leaf within. rw (keeps.is_own, first) (port.own leaf within);
-        one_task = λ leaf within. rw (keeps.task, first) (port.one_task leaf within);
-        within_caps = λ leaf within. rw (keeps.plan, keeps.source, first) (port.within_caps leaf within);
+        numbers = rw (same.first, same.view) port.numbers;
+        own = λ leaf within. rw (keeps.is_own, same.first) (port.own leaf (rw same.view at within));
+        one_task = λ leaf within. rw (keeps.task, same.first) (port.one_task leaf (rw same.view at within));
+        within_caps = λ leaf within. rw (keeps.plan, keeps.source, same.first, same.view, same.caps) (port.within_caps leaf (rw same.view at within));
       };
       can = can;
       holds = holds;
@@ -118,7 +120,7 @@ module _ (s t : PortState) (old : ViewTask) (walk : Progress) (stage : Stage) (f
       ViewStands (contents_at (sources_in t walk) walk.positions) (ops_of stage) → view_tree_of (ops_of stage) ≡ view_tree_of (ops_of old.stage) → following stage ≡ true → HasStepped s t old (moved_on old walk stage) body
   stepped body walked flow_is tags stands tree still = record {
     looked = gone.looked;
-    ready = ready_again s t old walk stage ready (keeps_looked s t gone.looked) gone.first gone.leaves gone.can
+    ready = ready_again s t old (moved_on old walk stage) ready (keeps_looked s t gone.looked) (record { view = refl; caps = refl; first = gone.first }) gone.leaves gone.can
         (follows_holds (contents_at (sources_in t walk) walk.positions) (view_of old) stage still (tree ∙ old_tree) stands);
     same = record { view = refl; caps = refl; first = gone.first };
     follows = still;
@@ -130,25 +132,12 @@ module _ (s t : PortState) (old : ViewTask) (walk : Progress) (stage : Stage) (f
   pub lost : HasLost s t old (moved_on old walk (Failed true))
   lost = record {
     looked = gone.looked;
-    ready = ready_again s t old walk (Failed true) ready (keeps_looked s t gone.looked) gone.first gone.leaves gone.can tt;
+    ready = ready_again s t old (moved_on old walk (Failed true)) ready (keeps_looked s t gone.looked) (record { view = refl; caps = refl; first = gone.first }) gone.leaves gone.can tt;
     same = record { view = refl; caps = refl; first = gone.first };
     failed = refl;
     row = refl;
     goes_on = refl;
   }
-
--- memory was wanting for the row
-pub lost_later : (s t : PortState) (old new : ViewTask) (body : Body) → HasStepped s t old new body → HasLost s t old (failed_now new)
-lost_later s t old new body stepped =
-    let ready = stepped.ready in
-    record {
-      looked = stepped.looked;
-      ready = record { is_task = record { short = ready.is_task.short; leaf_each = ready.is_task.leaf_each }; port = ready.port; can = ready.can; holds = tt };
-      same = record { view = stepped.same.view; caps = stepped.same.caps; first = stepped.same.first };
-      failed = refl;
-      row = refl;
-      goes_on = refl;
-    }
 
 -- ---- rows
 
@@ -179,30 +168,22 @@ module _ (s t : PortState) (old new : ViewTask) (body : Body) (ready : IsReady s
       rw (stepped.same.first, leaves) (same_contents s t stepped.looked old.walk.first (length (positions_of old)) (positions_of old) ready.can.within)
 
   module _ (seen : Seen) (shows_it : IsShownBy (view_of old) (contents_of s old) seen) (same_tags : tags_of seen ≡ tags_at old) where
-    goes : (leaf : ℕ) → GoesAhead (ways (sources_of t new) (positions_of old) (positions_of new) leaf)
-    goes = goes_ahead t new.walk.first (length (positions_of new)) stepped.ready.can.sound (positions_of old) (positions_of new) stepped.walked.goes_on
+    in_order : (leaf : ℕ) → IsInOrder (leaf_source (sources_of t new) leaf).plan.start
+    in_order = seen_in_order t stepped.ready.can.sound new.walk.first (length (positions_of new))
 
-    leads : BodyLeads (ways (sources_of t new) (positions_of old) (positions_of new)) goes (view_of old) seen.shown seen.next
-    leads = view_leads (ways (sources_of t new) (positions_of old) (positions_of new)) goes (view_of old) seen.shown seen.next
-        (record { kind = shows_it.kind; shows = rw before_is shows_it.shows; tags = shows_it.tags })
+    showed : IsShownBy (view_of old) (contents_at (sources_of t new) (positions_of old)) seen
+    showed = record { kind = shows_it.kind; shows = rw before_is shows_it.shows; tags = shows_it.tags }
 
     body_is : body ≡ with_tags (tags_of seen) (flow (ways (sources_of t new) (positions_of old) (positions_of new)) (view_of old))
     body_is = rw same_tags stepped.flow_is
 
-    pub next_row : new.walk.moved ≡ true → IsNextRow (view_of old) (sources_of t new) (positions_of old) seen (positions_of new) body
-    next_row moved = record {
-      within = stepped.ready.can.within;
-      goes_on = stepped.walked.goes_on;
-      moves = stepped.walked.moves moved refl;
-      awaited = stepped.walked.others;
-      flow = body_is;
-      lawful = rw body_is leads.lawful;
-      replay = rw body_is leads.replay;
-      tags = rw body_is (rw leads.follow leads.differ);
-    }
+    pub sound_row : new.walk.moved ≡ true → IsNextRow (view_of old) (sources_of t new) (positions_of old) seen (positions_of new) body
+    sound_row moved = rw body_is (next_row (view_of old) (sources_of t new) in_order (positions_of old) (positions_of new) stepped.walked.goes_on seen showed
+        stepped.ready.can.within (stepped.walked.moves moved refl) stepped.walked.others)
 
     pub next_tags : tags_of (seen_after seen body) ≡ tags_at new
-    next_tags = rw body_is (leads.follow ∙ ap (λ (tags : Option Enumeration). tags_after tags (flow (ways (sources_of t new) (positions_of old) (positions_of new)) (view_of old))) same_tags ∙ sym stepped.tags)
+    next_tags = rw body_is ((next_reaches (view_of old) (sources_of t new) in_order (positions_of old) (positions_of new) stepped.walked.goes_on seen showed).follow
+        ∙ ap (λ (tags : Option Enumeration). tags_after tags (flow (ways (sources_of t new) (positions_of old) (positions_of new)) (view_of old))) same_tags ∙ sym stepped.tags)
 
   -- where no leaf has gone on the tags stay
   pub tags_stay : new.walk.moved ≡ false → tags_at new ≡ tags_at old

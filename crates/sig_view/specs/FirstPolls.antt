@@ -1,10 +1,10 @@
 -- A poll before the first row, after its fetches.
 use Rattle.std.specs.Prelude.{◌≡◌, length, false}
 use Rattle.sig_hist.specs.Ports.{PortState}
-use Rattle.sig_view.specs.Fetching.{HasTried}
+use Rattle.sig_walk.specs.Fetching.{HasTried}
 use Rattle.sig_view.specs.Polling.{IsSameTask}
 use Rattle.sig_view.specs.Tasks.{IsReady, begun, contents_got}
-use Rattle.sig_view.specs.Walking.{HasGone, set_out}
+use Rattle.sig_walk.specs.Walking.{HasGone, set_out}
 use Rattle.sig_view.specs.declared.task.ViewTask.{ViewTask}
 
 -- each leaf that was missing was tried, and the task is still before its first row

@@ -2,12 +2,13 @@
 use Rattle.std.specs.Prelude.{◌≡◌, ℕ, ◌<◌, ◌+◌, slice_index, true, false, None, Some}
 use Rattle.sig_expr.specs.Awaited.{awaits}
 use Rattle.sig_hist.specs.Ports.{PortState}
-use Rattle.sig_view.specs.Flow.{flow, tags_after, with_tags}
+use Rattle.sig_rows.specs.Flow.{flow, tags_after, with_tags}
 use Rattle.sig_view.specs.Polling.{IsSameTask}
-use Rattle.sig_view.specs.SoundRows.{is_awaited, ways}
+use Rattle.sig_rows.specs.SoundRows.{is_awaited}
+use Rattle.sig_hist.specs.Ways.{ways}
 use Rattle.sig_view.specs.Tasks.{IsReady, contents_of, has_row, is_ended, is_failed, is_following, positions_of, sources_of, tags_at, view_of}
-use Rattle.sig_view.specs.Walking.{HasLooked, HasWalked, set_out}
-use Rattle.sig_view.specs.declared.rows.Body.{Body}
+use Rattle.sig_walk.specs.Walking.{HasLooked, HasWalked, set_out}
+use Rattle.sig_rows.specs.declared.rows.Body.{Body}
 use Rattle.sig_view.specs.declared.task.Going.{Going}
 use Rattle.sig_view.specs.declared.task.Going.TheVariants.{Answered, Nowhere}
 use Rattle.sig_view.specs.declared.task.Polled.TheVariants.{Again, Batch, NoMemory}

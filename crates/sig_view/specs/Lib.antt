@@ -1,15 +1,4 @@
-pub mod Flow
-pub mod SoundRows
-pub mod Choices
-pub mod Longest
-pub mod Walking
-pub mod Nodes
-pub mod Starting
-pub mod Steps
-pub mod Joins
-pub mod Fetching
 pub mod Tasks
 pub mod Polling
-pub mod Waiting
 pub mod GoingOn
 pub mod FirstPolls

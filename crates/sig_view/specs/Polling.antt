@@ -1,36 +1,15 @@
 -- What a poll answers, and what it leaves.
-use Rattle.std.specs.Prelude.{◌≡◌, ℕ, ◌+◌, ◌-◌, ◌^◌, ◌≤◌, ◌==◌, ◌&&◌, ◌||◌, min, length, take, slice_index, nat_le, nat_lt, Bool, true, false, if◌then◌else◌, Option, Some}
-use Rattle.sig_hist.specs.Ports.{GoesOn, PortState, put, raised}
+use Rattle.sig_walk.specs.Waiting.{HasPolled}
+use Rattle.std.specs.Prelude.{◌≡◌, ℕ, ◌+◌, ◌≤◌, ◌||◌, length, slice_index, Bool, true, false, Option, Some}
+use Rattle.sig_hist.specs.Ports.{PortState, raised}
 use Rattle.sig_hist.specs.declared.ports.Condition.TheVariants.{Waiting}
-use Rattle.sig_hist.specs.declared.ports.Version.{Version}
-use Rattle.sig_view.specs.SoundRows.{IsFirstRow, IsNextRow, IsShownBy, Seen, is_awaited, nothing_seen, seen_after, tags_of}
+use Rattle.sig_rows.specs.SoundRows.{IsFirstRow, IsNextRow, IsShownBy, Seen, is_awaited, nothing_seen, seen_after, tags_of}
 use Rattle.sig_view.specs.Tasks.{IsReady, contents_of, has_row, is_ended, is_failed, is_following, is_lacking, positions_of, sources_of, tags_at, view_of}
-use Rattle.sig_view.specs.Walking.{IsFresh, Progress, first_word, is_seen_closed, met_since}
-use Rattle.sig_view.specs.declared.rows.Row.{Row}
+use Rattle.sig_walk.specs.Walking.{IsFresh, first_word, is_seen_closed, met_since}
+use Rattle.sig_rows.specs.declared.rows.Row.{Row}
 use Rattle.sig_view.specs.declared.task.Polled.{Polled}
 use Rattle.sig_view.specs.declared.task.Polled.TheVariants as polled
 use Rattle.sig_view.specs.declared.task.ViewTask.{ViewTask}
-
--- ---- what every poll leaves
-
--- whether a leaf of the port is one of a walk's
-abbrev pub is_walked : Progress → ℕ → Bool
-is_walked walk leaf = nat_le walk.first leaf && nat_lt leaf (walk.first + length walk.positions)
-
--- the port has seen and met no less; what isn't the view's is as it was, but that leaves are looked at; and one token of the
--- view's task is spent where the view rests. How often a bell was set falls in no poll, as far as 64 bits reach
-pub record HasPolled (s t : PortState) (walk : Progress) (rests : Bool) : Type 0 where
-  pub is_own : t.is_own ≡ s.is_own
-  pub source : t.source ≡ s.source
-  pub task : t.task ≡ s.task
-  pub plan : t.plan ≡ s.plan
-  pub missed : t.missed ≡ s.missed
-  pub seen : (source : ℕ) → GoesOn s source (t.seen source) (t.count source)
-  pub met : take (length s.met) t.met ≡ s.met
-  pub tokens : t.tokens ≡ (if rests then put s.tokens (s.task walk.first) (s.tokens (s.task walk.first) - 1) else s.tokens)
-  pub arms : (leaf : ℕ) → is_walked walk leaf ≡ false → t.arms leaf ≡ s.arms leaf
-  pub rises : (leaf : ℕ) → min (s.arms leaf) (2 ^ 64 - 1) ≤ t.arms leaf
-  pub waits : (leaf : ℕ) (version : Version) → (s.task leaf == s.task walk.first) ≡ false → s.condition leaf ≡ Waiting version → t.condition leaf ≡ Waiting version
 
 pub record IsSameTask (old new : ViewTask) : Type 0 where
   pub view : new.view ≡ old.view

@@ -6,14 +6,14 @@ use Rattle.sig_expr.specs.Leaves.{leaves, numbered}
 use Rattle.sig_expr.specs.Shapes.{view_tree}
 use Rattle.sig_expr.specs.Trees.{ViewTree, map_source}
 use Rattle.sig_expr.specs.declared.expressions.View.{View}
-use Rattle.sig_hist.specs.Ports.{GoesOn, IsSoundPort, PortState}
+use Rattle.sig_hist.specs.Ports.{IsSoundPort, PortState}
 use Rattle.sig_hist.specs.Sources.{Source}
 use Rattle.sig_ops.specs.Enumerating.{Enumeration}
-use Rattle.sig_view.specs.Fetching.{AreFetched}
-use Rattle.sig_view.specs.Longest.{longest}
-use Rattle.sig_view.specs.Nodes.{ViewOps, ViewStands, map, op_tags, view_ops, view_tree_of}
-use Rattle.sig_view.specs.SoundRows.{contents_at}
-use Rattle.sig_view.specs.Walking.{CanWalk, sources_in}
+use Rattle.sig_walk.specs.Fetching.{AreFetched}
+use Rattle.sig_rows.specs.Longest.{longest}
+use Rattle.sig_nodes.specs.Nodes.{ViewOps, ViewStands, map, op_tags, view_ops, view_tree_of}
+use Rattle.sig_hist.specs.Ways.{contents_at}
+use Rattle.sig_walk.specs.Walking.{CanWalk, sources_in}
 use Rattle.sig_view.specs.declared.task.Stage.{Stage}
 use Rattle.sig_view.specs.declared.task.Stage.TheVariants.{Fetching, Following, Ended, Failed}
 use Rattle.sig_view.specs.declared.task.ViewTask.{ViewTask}
@@ -143,14 +143,3 @@ pub record IsNew (view : View) (caps : List ℕ) (first : ℕ) (task : ViewTask)
   pub works : is_failed task ≡ false
   pub lacks : (leaf : ℕ) → leaf < length (leaves (view_tree view)) → lacks_leaf task leaf ≡ true
   pub ready : (s : PortState) → CanPoll s view caps first → IsReady s task
-
--- ---- a later moment
-
--- the port has the same leaves, and has seen no less
-pub record HasSeenMore (s t : PortState) : Type 0 where
-  pub sound : IsSoundPort t
-  pub is_own : t.is_own ≡ s.is_own
-  pub source : t.source ≡ s.source
-  pub task : t.task ≡ s.task
-  pub plan : t.plan ≡ s.plan
-  pub seen : (source : ℕ) → GoesOn s source (t.seen source) (t.count source)

@@ -1,32 +1,29 @@
-ghost use Rattle.std.specs.Prelude.{◌≡◌, ◌<◌, ◌≤◌, ◌+◌, ◌^◌, true, false, length, replicate, None, IfOk, OnOk, OnErr};
+ghost use Rattle.std.specs.Prelude.{◌≡◌, ◌<◌, ◌≤◌, ◌+◌, true, false, length, replicate, None, IfOk, OnOk, OnErr};
 ghost use Rattle.sig_expr.specs.Bounds.{cap_of};
 ghost use Rattle.sig_expr.specs.Awaited.{awaits};
 ghost use Rattle.sig_expr.specs.Leaves.{leaves};
 ghost use Rattle.sig_expr.specs.Shapes.{view_tree};
 ghost use Rattle.sig_hist.specs.Ports.{PortState};
 ghost use Rattle.sig_hist.specs.Sources.{AreDistinct};
-ghost use Rattle.sig_view.specs.Fetching.{at_start, content_in};
+ghost use Rattle.sig_walk.specs.Fetching.{AreFetched, HasTried, at_start, content_in};
 ghost use Rattle.sig_view.specs.FirstPolls.{HasBegun};
-ghost use Rattle.sig_view.specs.Flow.{flow, tags_after, with_tags};
+ghost use Rattle.sig_rows.specs.Flow.{flow, tags_after, with_tags};
 ghost use Rattle.sig_view.specs.GoingOn.{HasGoneOn, HasLost, HasStepped, IsAnswered, IsBehind};
-ghost use Rattle.sig_view.specs.Longest.{longest};
-ghost use Rattle.sig_view.specs.Nodes.{op_tags, view_ops, view_tree_of, ViewStands};
+ghost use Rattle.sig_rows.specs.Longest.{longest};
+ghost use Rattle.sig_nodes.specs.Nodes.{op_tags, view_ops, view_tree_of, ViewStands};
 ghost use Rattle.sig_view.specs.Polling.{IsPoll, IsSameTask};
-ghost use Rattle.sig_view.specs.SoundRows.{contents_at, ways};
-ghost use Rattle.sig_view.specs.Starting.{IsViewStarted, leaf_length};
+ghost use Rattle.sig_hist.specs.Ways.{contents_at, ways};
+ghost use Rattle.sig_nodes.specs.Starting.{IsViewStarted, leaf_length};
 ghost use Rattle.sig_view.specs.Tasks.{IsNew, IsReady, begun, contents_got, first_of, following, has_row, is_begun, is_ended, is_following, ops_of, positions_of, view_of};
-ghost use Rattle.sig_view.specs.Walking.{CanWalk, HasGone, HasLeaves, HasWalked, cap_at, set_out, sources_in};
+ghost use Rattle.sig_walk.specs.Walking.{CanWalk, HasGone, HasLeaves, HasWalked, cap_at, set_out, sources_in};
 ghost use Rattle.sig_view.specs.declared.task.ViewTask.{ViewTask};
 
-use crate::fetching::fetch_into;
-use crate::nodes::ViewNode;
-use crate::rows::{Body, Positions, Row};
-use crate::starting::view_node;
-use crate::waiting::Waited;
-use crate::walk::Walk;
 use sig_diff::{Content, NoMemory};
 use sig_expr::{Caps, View, leaves};
 use sig_hist::Port;
+use sig_nodes::{ViewNode, view_node};
+use sig_rows::{Body, Positions, Row};
+use sig_walk::{Waited, Walk, fetch_all};
 use std::alloc::Global;
 use std::snapshot::Snapshot;
 
@@ -226,6 +223,24 @@ impl ViewTask {
         ensures { self.new ≡ record self.old { stage = Stage.Failed false } }
     {
         put_stage(&mut self.stage, Stage::Failed(false));
+    }
+}
+
+/// Fetches for a view's stage before its first row.
+fn fetch_into<P: Port>(port: &mut P, walk: &mut Walk, stage: &mut Stage) -> Result<(), NoMemory>
+    requires begins { begun stage.old ≡ false }
+    requires can { CanWalk (P.state port.old) walk.old }
+    requires held { walk.old.held ≡ None }
+    requires each { length (contents_got stage.old) ≡ length walk.old.positions }
+    requires fetched { AreFetched (contents_at (sources_in (P.state port.old) walk.old) walk.old.positions) (length (contents_got stage.old)) (contents_got stage.old) }
+    ensures same { P.is_same port.old port.new }
+    ensures gone { HasGone (P.state port.old) (P.state port.new) walk.old walk.new }
+    ensures begun { begun stage.new ≡ false }
+    ensures tried { OnOk result (HasTried (P.state port.old) (P.state port.new) walk.old walk.new (contents_got stage.old) (contents_got stage.new) (length (contents_got stage.old))) }
+{
+    match stage {
+        Stage::Fetching(contents) => fetch_all(port, walk, contents.as_mut_slice()),
+        _ => unreachable!(),
     }
 }
 

@@ -1,6 +1,6 @@
 use Rattle.std.proofs.Common.{◌≡◌, ◌+◌, ◌++◌, map, drop, length}
 use Rattle.sig_expr.specs.Leaves.{sigs_leaves, vecs_leaves, number_sigs, number_vecs}
-use Rattle.sig_expr.specs.Scratch.{signals_of, lists_of}
+use Rattle.sig_expr.specs.Evaluation.{signals_of, lists_of}
 use Rattle.sig_expr.specs.Shapes.{sig_tree, vec_tree, sig_trees, vec_trees}
 use Rattle.sig_expr.specs.Shows.{content_of}
 use Rattle.sig_expr.proofs.evaluation.+evaluate.Given as goal

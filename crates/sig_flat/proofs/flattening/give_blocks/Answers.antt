@@ -12,21 +12,21 @@ pub overflow_cast-place : goal.overflow_cast-place
 overflow_cast-place c =
     let element = get_or c.args.outer.now c.elements.element-index (pos 0) in
     let same : to_z w64 (of_z w64 element) ≡ element = search rules in
-    let block = ap length (rw same at c.block.ensures) in
+    let block = ap length (rw same at c.list_for.ensures) in
     omega (arith, block, c.elements.invariant.1, c.requires.short, joined_more (list_for c.args.parts.now) c.args.outer.now c.elements.element-index c.elements-test.true)
 
 pub overflow_add-place : goal.overflow_add-place
 overflow_add-place c =
     let element = get_or c.args.outer.now c.elements.element-index (pos 0) in
     let same : to_z w64 (of_z w64 element) ≡ element = search rules in
-    let block = ap length (rw same at c.block.ensures) in
+    let block = ap length (rw same at c.list_for.ensures) in
     omega (arith, block, c.elements.invariant.1, c.requires.short, joined_more (list_for c.args.parts.now) c.args.outer.now c.elements.element-index c.elements-test.true)
 
 pub elements-preserved : goal.elements-preserved
 elements-preserved c =
     let element = get_or c.args.outer.now c.elements.element-index (pos 0) in
     let same : to_z w64 (of_z w64 element) ≡ element = search rules in
-    let block = rw same at c.block.ensures in
+    let block = rw same at c.list_for.ensures in
     let class = rw same at c.class_of.ensures.result in
     let step = drop-cons c.args.outer.now c.elements.element-index (pos 0) c.elements-test.true in
     let next : c.elements.element-index + 1 ≡ suc c.elements.element-index = omega arith in

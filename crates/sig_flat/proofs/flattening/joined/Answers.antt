@@ -5,7 +5,7 @@ pub elements-preserved : goal.elements-preserved
 elements-preserved c =
     let element = get_or c.args.outer.now c.elements.element-index (pos 0) in
     let same : to_z w64 (of_z w64 element) ≡ element = search rules in
-    let block = rw same at c.block.ensures in
+    let block = rw same at c.list_for.ensures in
     let rest = rw (drop-cons c.args.outer.now c.elements.element-index (pos 0) c.elements-test.true) at c.elements.invariant in
     let next : c.elements.element-index + 1 ≡ suc c.elements.element-index = omega arith in
     rw (c.in_ok-extend_from_slice.ensures.items, block, append_assoc, next) rest

@@ -1,5 +1,5 @@
 use Rattle.std.proofs.Common.{ap, length, arith}
-use Rattle.sig_ops.specs.EnumerateTurns.{few_made_by_step}
+use Rattle.sig_ops.specs.laws.Enumerating.{few_made_by_step}
 use Rattle.sig_ops.proofs.enumerating.tagged.Goals as goal
 
 pub tagged_from-requires : goal.tagged_from-requires

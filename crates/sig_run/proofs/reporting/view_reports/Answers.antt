@@ -11,4 +11,4 @@ returns c =
     let views = c.views.def-iterator.b.rest in
     let none : (length defs ≡ 0) ⊎ (length views.items ≡ 0) =
     elim c.in-None.ensures.steps as (λ _. (length defs ≡ 0) ⊎ (length views.items ≡ 0)) [ inl first ↦ inl first.1.0 | inr second ↦ inr (sym views.ok.0 ∙ second.1.0) ] in
-    none_left (λ (one : ViewDef × WatchedView). view_report_of one.0 one.1) c.views.reports _ defs views.items none c.views.invariant
+    none_left (λ (one : ViewDef × WatchedView). view_report_of one.0 one.1) c.views.reports _ defs views.items none c.views.invariant.1

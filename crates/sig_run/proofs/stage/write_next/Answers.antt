@@ -1,6 +1,6 @@
 use Rattle.std.proofs.Common.{◌≡◌, ◌∙◌, length, sym, ap, arith}
 use Rattle.std.proofs.lemmas.Bool.{and_parts, eqb-true}
-use Rattle.sig_hist.specs.OneThread.{OneThread}
+use Rattle.sig_hist.specs.Plain.{OneThread}
 use Rattle.sig_run.proofs.Seeing.{left_more}
 use Rattle.sig_run.proofs.Writing.{leave_all_is, wrote_last, wrote_nothing}
 use Rattle.sig_run.proofs.stage.write_next.Goals as goal

@@ -2,16 +2,16 @@ use Rattle.std.proofs.Common.{rules, ◌≡◌, [], length}
 use Rattle.std.proofs.lemmas.List.{get_or-set_same}
 use Rattle.sig_diff.specs.Differences.{applied}
 use Rattle.sig_flat.specs.Flattening.{bank_next, part_at}
-use Rattle.sig_flat.specs.FlattenTurns.{bank_turns}
+use Rattle.sig_flat.specs.laws.Flattening.{bank_leads}
 use Rattle.sig_flat.proofs.Standing.{given_after}
 use Rattle.sig_ops.proofs.Sizing.{length_applied}
 use Rattle.sig_flat.proofs.flattening.Flatten.step_bank.Goals as goal
 
 pub returns-in_err-change_part-clause-law : goal.returns-in_err-change_part-clause-law
-returns-in_err-change_part-clause-law c = bank_turns c.args.self.now c.args.child c.args.diff.now c.requires.child c.requires.lawful
+returns-in_err-change_part-clause-law c = bank_leads c.args.self.now c.args.child c.args.diff.now c.requires.child c.requires.lawful
 
 pub returns-clause-law : goal.returns-clause-law
-returns-clause-law c = bank_turns c.args.self.now c.args.child c.args.diff.now c.requires.child c.requires.lawful
+returns-clause-law c = bank_leads c.args.self.now c.args.child c.args.diff.now c.requires.child c.requires.lawful
 
 pub give_blocks-requires-clause-changed : goal.give_blocks-requires-clause-changed
 give_blocks-requires-clause-changed c =

@@ -1,6 +1,6 @@
 use Rattle.std.proofs.Common.{◌≡◌, ◌∙◌, ◌++◌, map, take, drop, length, ap, arith, length-append, length-drop}
 use Rattle.std.proofs.lemmas.List.{length-map, length-take}
-use Rattle.sig_hist.specs.OneThread.{OneThread, after_leave}
+use Rattle.sig_hist.specs.Plain.{OneThread, after_leave}
 use Rattle.sig_hist.proofs.Knowing.{left_more}
 use Rattle.sig_hist.proofs.plain.Plain.leave_all.Goals as goal
 

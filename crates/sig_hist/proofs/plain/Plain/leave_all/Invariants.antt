@@ -1,5 +1,5 @@
 use Rattle.std.proofs.Common.{◌≡◌, ◌++◌, map, take, drop}
-use Rattle.sig_hist.specs.OneThread.{after_leave}
+use Rattle.sig_hist.specs.Plain.{after_leave}
 use Rattle.sig_hist.proofs.plain.Plain.leave_all.Given as goal
 
 abbrev pub invariant-sources : goal.invariant-sources

@@ -1,5 +1,5 @@
 use Rattle.std.proofs.Common.{rules, ◌≡◌, w64, to_z, of_z}
-use Rattle.sig_maps.specs.Turning.{value_follows}
+use Rattle.sig_maps.specs.laws.Tables.{value_follows}
 use Rattle.sig_maps.proofs.key.KeyOf.step.Goals as goal
 
 pub returns-clause-law : goal.returns-clause-law

@@ -1,6 +1,6 @@
 use Rattle.std.proofs.Common.{◌∙◌, subst, sym, ap, arith}
 use Rattle.sig_ops.specs.Enumerating.{Enumeration, enumerate_gives}
-use Rattle.sig_ops.specs.EnumerateTurns.{EnumerateStep, few_made_by_step}
+use Rattle.sig_ops.specs.laws.Enumerating.{EnumerateStep, few_made_by_step}
 use Rattle.sig_ops.specs.TagIndex.{reindexed}
 use Rattle.sig_ops.proofs.TagIndexes.{index_taken}
 use Rattle.sig_ops.proofs.enumerating.EnumerateOp.take.Goals as goal

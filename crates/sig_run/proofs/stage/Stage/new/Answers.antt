@@ -1,6 +1,7 @@
-use Rattle.std.proofs.Common.{◌≡◌, ◌∙◌, ◌<◌, ◌^◌, List, [], length, map, ap, sym, subst, arith}
+use Rattle.std.proofs.Common.{◌≡◌, ◌∙◌, ◌<◌, ◌^◌, List, [], length, map, ap, sym, subst}
+use Rattle.std.proofs.lemmas.List.{length-map}
 use Rattle.sig_expr.specs.declared.expressions.View.{View}
-use Rattle.sig_hist.specs.OneThread.{OneThread, leaf_of, source_of}
+use Rattle.sig_hist.specs.Plain.{OneThread, leaf_of, source_of}
 use Rattle.sig_report.proofs.Events.{IsPlay}
 use Rattle.sig_report.proofs.Plays.{opened_play}
 use Rattle.sig_report.proofs.Views.{no_shares, views_are}
@@ -16,7 +17,7 @@ use Rattle.sig_script.specs.Rooms.{caps_of}
 pub new-requires-clause-leaves : goal.new-requires-clause-leaves
 new-requires-clause-leaves c =
     let script = c.args.script.now in
-    rw (c.in_ok-leaves_of.ensures, c.as_slice-views.ensures, c.in_ok-plans.ensures.plans) (leaves_within script (no_shares script c.requires.built) script.views c.requires.self_contained.views)
+    rw (c.in_ok-leaves_of.ensures.sources, c.as_slice-views.ensures, c.in_ok-plans.ensures.plans) (leaves_within script (no_shares script c.requires.built) script.views c.requires.self_contained.views)
 
 pub returns-clause-played : goal.returns-clause-played
 returns-clause-played c =
@@ -36,12 +37,10 @@ returns-clause-step c =
     let port = c.in_ok-new.field-0 in
     let views = c.in_ok-views_of.field-0.items in
     let sources : port.sources ≡ map source_of (plans_of script) = ap (λ (port : OneThread). port.sources) c.in_ok-new.ensures.port ∙ ap (map source_of) c.in_ok-plans.ensures.plans in
-    let labels : c.in_ok-leaves_of.field-0 ≡ leaf_sources script.views = rw c.as_slice-views.ensures at c.in_ok-leaves_of.ensures in
+    let labels : c.in_ok-leaves_of.field-0 ≡ leaf_sources script.views = rw c.as_slice-views.ensures at c.in_ok-leaves_of.ensures.sources in
     let placed : port.leaves ≡ map leaf_of (leaf_sources script.views) = ap (λ (port : OneThread). port.leaves) c.in_ok-new.ensures.port ∙ ap (map leaf_of) labels in
     let fresh : AreFresh (caps_of script) 0 script.views views = rw (c.as_slice-views.ensures, c.in_ok-caps.ensures) at c.in_ok-views_of.ensures in
-    let held = c.drop-2.inside.leaves in
-    let kept : held.items ≡ port.leaves = ap (λ (port : OneThread). port.leaves) c.drop-2.view_is in
-    let few : length port.leaves < 2 ^ 64 = omega (arith, ap length kept, held.ok.0, held.ok.1, held.small) in
+    let few : length port.leaves < 2 ^ 64 = rw (placed, length-map (leaf_sources script.views) leaf_of, ← labels) c.in_ok-leaves_of.ensures.few in
     let stage : Stage = record { port = port; done = c.in_ok-none_done.field-0; views = c.in_ok-views_of.field-0 } in
     let play : IsPlay script (played_of stage) = subst (IsPlay script) (sym (returns-clause-played c)) (opened_play script unshared) in
     record {

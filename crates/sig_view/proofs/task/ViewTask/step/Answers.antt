@@ -1,5 +1,5 @@
 use Rattle.sig_view.proofs.Stepping.{are_apart, has_leaves, lost, short_now, stepped, tree_held}
-use Rattle.sig_view.specs.Nodes.{view_tree_of}
+use Rattle.sig_nodes.specs.Nodes.{view_tree_of}
 use Rattle.sig_view.specs.Tasks.{contents_of, ops_of, view_of}
 use Rattle.sig_view.proofs.task.ViewTask.step.Goals as goal
 

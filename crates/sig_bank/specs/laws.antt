@@ -1,0 +1,2 @@
+-- What each view that chooses gives leads from view to view.
+pub mod Banks

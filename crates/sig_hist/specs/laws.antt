@@ -1,0 +1,2 @@
+-- Laws of histories.
+pub mod Histories

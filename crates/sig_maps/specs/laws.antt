@@ -1,0 +1,2 @@
+-- What views of a map give leads from view to view.
+pub mod Tables

@@ -1,0 +1,4 @@
+pub mod Choices
+pub mod Nodes
+pub mod Starting
+pub mod Steps

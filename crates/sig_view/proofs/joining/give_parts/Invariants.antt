@@ -1,5 +1,0 @@
-use Rattle.sig_view.proofs.BlocksLead.{TakingParts}
-use Rattle.sig_view.proofs.joining.give_parts.Given as goal
-
-abbrev pub invariant-lists : goal.invariant-lists
-invariant-lists l = TakingParts l.op l.initial.op l.place l.lists l.given l.initial.given

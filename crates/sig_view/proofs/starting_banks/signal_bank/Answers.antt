@@ -1,6 +1,0 @@
-use Rattle.sig_view.specs.Nodes.{one_signal, signal_ops}
-use Rattle.sig_view.proofs.BankStarts.{before_one_more}
-use Rattle.sig_view.proofs.starting_banks.signal_bank.Goals as goal
-
-pub nodes-preserved : goal.nodes-preserved
-nodes-preserved c = rw (c.in_ok-bank.ensures, ← before_one_more one_signal signal_ops _ _ _, ← c.in-Some.ensures.items) c.nodes.invariant

@@ -1,5 +1,0 @@
-use Rattle.sig_view.specs.Waiting.{IsLastOpen}
-use Rattle.sig_view.proofs.walk.Walk.last_open.Given as goal
-
-abbrev pub invariant-leaves : goal.invariant-leaves
-invariant-leaves l = IsLastOpen l.self l.leaf l.last

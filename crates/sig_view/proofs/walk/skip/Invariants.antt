@@ -1,7 +1,0 @@
-use Rattle.std.proofs.Common.{◌≡◌, ◌++◌, map, take, drop}
-use Rattle.sig_view.specs.declared.walk.Mark.{Mark}
-use Rattle.sig_view.specs.declared.walk.Mark.TheVariants.{Skipped}
-use Rattle.sig_view.proofs.walk.skip.Given as goal
-
-abbrev pub invariant-marks : goal.invariant-marks
-invariant-marks l = l.mark-items ≡ map (λ (mark : Mark). Skipped) (take l.mark-index l.fn.marks) ++ drop l.mark-index l.fn.marks

@@ -1,0 +1,10 @@
+pub mod Staying
+pub mod Later
+pub mod Trying
+pub mod Arriving
+pub mod Composing
+pub mod Holding
+pub mod AllTried
+pub mod Fetched
+pub mod Leaving
+pub mod Listening
