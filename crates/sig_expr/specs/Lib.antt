@@ -4,5 +4,6 @@ pub mod Leaves
 pub mod Evaluation
 pub mod Awaited
 pub mod Bounds
+pub mod Lengths
 pub mod Shapes
 pub mod Shows

@@ -28,7 +28,7 @@ use Rattle.sig_rows.specs.Joins.{Goes}
 use Rattle.sig_rows.proofs.Reaching.{signals_reach}
 use Rattle.sig_rows.proofs.Entered.{Reaches}
 use Rattle.sig_rows.specs.Flow.{after_signals, by_signals, through}
-use Rattle.sig_rows.specs.Longest.{sigs_longest, vec_longest}
+use Rattle.sig_expr.specs.Lengths.{sigs_longest, vec_longest}
 use Rattle.sig_walk.specs.Walking.{CanWalk, HasLeaves, Progress, sources_in, cap_at}
 
 -- ---- the operator after its signals

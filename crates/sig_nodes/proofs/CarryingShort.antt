@@ -14,7 +14,7 @@ use Rattle.sig_rows.proofs.GoingAlong.{GoesShort}
 use Rattle.sig_walk.proofs.Staying.{same_plan}
 use Rattle.sig_hist.specs.Ways.{before, state_at, GoOn, contents_at, leaf_source, ways}
 use Rattle.sig_rows.specs.Flow.{list_flow, list_flows}
-use Rattle.sig_rows.specs.Longest.{vec_longest}
+use Rattle.sig_expr.specs.Lengths.{vec_longest}
 use Rattle.sig_nodes.specs.Nodes.{ListOps, ListsOps, list_tree, list_trees}
 use Rattle.sig_walk.specs.Walking.{CanWalk, HasGone, HasLooked, Progress, cap_at, seen_source, seen_sources, sources_in}
 use Rattle.sig_rows.proofs.MapShortening.{entries_short, state_within}

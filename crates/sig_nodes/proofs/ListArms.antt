@@ -24,7 +24,7 @@ use Rattle.sig_rows.proofs.GoingAlong.{GoesShort, goes}
 use Rattle.sig_rows.specs.Joins.{Goes}
 use Rattle.sig_rows.proofs.Entered.{Reaches}
 use Rattle.sig_rows.specs.Flow.{through}
-use Rattle.sig_rows.specs.Longest.{vec_longest}
+use Rattle.sig_expr.specs.Lengths.{vec_longest}
 use Rattle.sig_sort.specs.Sorting.{SortedList, sorted_gives, sorted_of}
 use Rattle.sig_walk.proofs.Holding.{held_before}
 use Rattle.sig_walk.specs.Walking.{CanWalk, Progress, sources_in, cap_at}

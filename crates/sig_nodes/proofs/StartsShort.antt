@@ -12,7 +12,7 @@ use Rattle.sig_expr.specs.declared.expressions.VecExpr
 use Rattle.sig_expr.specs.declared.expressions.VecExpr.{VecExpr}
 use Rattle.sig_expr.proofs.Bounded.{list_within}
 use Rattle.sig_rows.proofs.Shortening.{bound_within}
-use Rattle.sig_rows.specs.Longest.{vec_longest, vecs_longest}
+use Rattle.sig_expr.specs.Lengths.{vec_longest, vecs_longest}
 use Rattle.sig_nodes.specs.Starting.{leaf_length}
 
 -- expressions as trees

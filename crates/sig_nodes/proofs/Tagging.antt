@@ -15,7 +15,7 @@ use Rattle.sig_nodes.proofs.Carrying.{carries}
 use Rattle.sig_nodes.proofs.CarryingShort.{carries_short}
 use Rattle.sig_rows.proofs.Tags.{tags_stand}
 use Rattle.sig_rows.proofs.Entered.{Reaches}
-use Rattle.sig_rows.specs.Longest.{vec_longest}
+use Rattle.sig_expr.specs.Lengths.{vec_longest}
 use Rattle.sig_nodes.specs.Nodes.{ListOps, list_tree}
 use Rattle.sig_hist.specs.Ways.{contents_at}
 use Rattle.sig_nodes.specs.Steps.{ListGone}

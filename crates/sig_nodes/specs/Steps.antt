@@ -9,7 +9,7 @@ use Rattle.sig_expr.specs.Leaves.{map_leaves, sig_leaves, sigs_leaves, vec_leave
 use Rattle.sig_hist.specs.Ports.{PortState}
 use Rattle.sig_hist.specs.Sources.{AreDistinct}
 use Rattle.sig_rows.specs.Flow.{list_flow, list_flows, map_flow, value_flow, value_flows}
-use Rattle.sig_rows.specs.Longest.{sig_longest, sigs_longest, vec_longest, vecs_longest}
+use Rattle.sig_expr.specs.Lengths.{sig_longest, sigs_longest, vec_longest, vecs_longest}
 use Rattle.sig_nodes.specs.Nodes.{ListOps, ListStands, ListsOps, ListsStand, SignalOps, SignalStands, SignalsOps, SignalsStand, list_tree, list_trees, signal_tree, signal_trees}
 use Rattle.sig_hist.specs.Ways.{contents_at, ways}
 use Rattle.sig_walk.specs.Walking.{CanWalk, HasGone, HasLeaves, HasWalked, Progress, cap_at, sources_in}

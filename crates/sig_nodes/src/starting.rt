@@ -9,7 +9,7 @@ ghost use Rattle.sig_expr.specs.Evaluation.{list_of, lists_of};
 ghost use Rattle.sig_expr.specs.Trees.{VecTree, flattened, joined, mapped_values};
 ghost use Rattle.sig_expr.specs.Shapes.{map_tree, sig_tree, sig_trees, vec_tree, vec_trees, view_tree};
 ghost use Rattle.sig_walk.specs.Fetching.{content_in};
-ghost use Rattle.sig_rows.specs.Longest.{longest, sig_longest, sigs_longest, vec_longest, vecs_longest};
+ghost use Rattle.sig_expr.specs.Lengths.{longest, sig_longest, sigs_longest, vec_longest, vecs_longest};
 ghost use Rattle.sig_ops.specs.Enumerating.{enumeration_of, tagged_from};
 ghost use Rattle.sig_nodes.specs.Nodes.{list_ops, lists_ops, map_ops, pairs_by, signal_ops, signals_ops, tagged, view_ops};
 ghost use Rattle.sig_nodes.specs.Starting.{AreListsStarted, AreSignalsStarted, IsListStarted, IsMapStarted, IsSignalStarted, IsViewStarted, leaf_length};

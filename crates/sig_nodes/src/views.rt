@@ -6,7 +6,7 @@ ghost use Rattle.sig_diff.specs.Replaying.{AreLawful, StaysShort};
 ghost use Rattle.sig_ops.specs.Enumerating.{enumerate_gives, enumeration_next, values_of};
 ghost use Rattle.sig_ops.specs.Following.{after_all, all_given};
 ghost use Rattle.sig_rows.specs.Flow.{flow, tags_after, with_tags};
-ghost use Rattle.sig_rows.specs.Longest.{longest};
+ghost use Rattle.sig_expr.specs.Lengths.{longest};
 ghost use Rattle.sig_nodes.specs.Nodes.{op_tags, view_ops, view_tree_of, ViewStands};
 ghost use Rattle.sig_hist.specs.Ways.{contents_at, ways};
 ghost use Rattle.sig_walk.specs.Walking.{CanWalk, HasGone, HasLeaves, HasWalked, cap_at, sources_in};

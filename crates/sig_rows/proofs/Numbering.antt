@@ -8,7 +8,7 @@ use Rattle.sig_expr.specs.Bounds.{greatest_bound, map_bound, vec_bound}
 use Rattle.sig_expr.specs.Leaves.{leaves, map_leaves, number_map, number_sig, number_sigs, number_vec, number_vecs, numbered, sig_leaves, sigs_leaves, vec_leaves, vecs_leaves}
 use Rattle.sig_expr.specs.Trees.{MapTree, map_source, mapped_values, SigTree, cell, mapped_signal, deduped, switched, length_of, total_of, at_key, VecTree, vector, mapped, filtered, filtered_by, mapped_by, sorted, joined, flattened, picked, keys_in, values_in, SigTrees, no_signals, more_signals, VecTrees, no_lists, more_lists, ViewTree, signal_view, vector_view, map_view, entries_view, tagged_view}
 use Rattle.sig_hist.specs.Sources.{AreDistinct, is_among}
-use Rattle.sig_rows.specs.Longest.{longest, sig_longest, sigs_longest, vec_longest, vecs_longest}
+use Rattle.sig_expr.specs.Lengths.{longest, sig_longest, sigs_longest, vec_longest, vecs_longest}
 
 -- ---- numbers
 

@@ -38,7 +38,7 @@ use Rattle.sig_rows.proofs.HalvesReach.{halves_short}
 use Rattle.sig_rows.proofs.Entered.{KeepsUp, Reaches, filter_keeps_up, map_keeps_up, map_reaches, map_through, sorted_keeps_up, through_follows, through_reaches}
 use Rattle.sig_hist.specs.Ways.{GoesAhead, Way, before, passed, state_at}
 use Rattle.sig_rows.specs.Flow.{by_signals, given_list, list_flow, list_flows, map_flow, new, of_map, old, through, value_flow}
-use Rattle.sig_rows.specs.Longest.{vec_longest, vecs_longest}
+use Rattle.sig_expr.specs.Lengths.{vec_longest, vecs_longest}
 
 -- ---- sources
 

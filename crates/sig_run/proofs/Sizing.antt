@@ -12,7 +12,7 @@ use Rattle.sig_report.proofs.Views.{below_none, field_none, fields_none, or_none
 use Rattle.sig_script.specs.Paths.{here_unless}
 use Rattle.sig_script.specs.Sizes.{is_short, map_size, sig_size, sigs_size, vec_size, vecs_size, view_size, views_size}
 use Rattle.sig_script.specs.declared.types.ViewDef.{ViewDef}
-use Rattle.sig_rows.specs.Longest.{longest, sig_longest, sigs_longest, vec_longest, vecs_longest}
+use Rattle.sig_expr.specs.Lengths.{longest, sig_longest, sigs_longest, vec_longest, vecs_longest}
 
 short_by : (bound : ℕ) (fits : Bool) → nat_le bound 65536 ≡ fits → here_unless fits ≡ None → bound ≤ 65536
 short_by bound true is none = grind (arith, nat_tests)

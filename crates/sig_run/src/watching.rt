@@ -5,7 +5,7 @@ ghost use Rattle.sig_expr.specs.Shapes.{view_tree};
 ghost use Rattle.sig_hist.specs.Plain.{known};
 ghost use Rattle.sig_report.specs.Playing.{polled};
 ghost use Rattle.sig_run.specs.Watching.{sources_under};
-ghost use Rattle.sig_rows.specs.Longest.{longest};
+ghost use Rattle.sig_expr.specs.Lengths.{longest};
 ghost use Rattle.sig_walk.specs.Walking.{HasSeenMore};
 ghost use Rattle.sig_view.specs.Tasks.{expression_of, positions_of};
 

@@ -10,11 +10,8 @@ ghost use Rattle.sig_script.specs.Sizes.{is_short, map_size, share_size, shares_
 use crate::paths::{Stop, below, below_place, here_unless};
 use crate::rooms::{caps, share_room, source_rooms};
 use crate::types::{Script, ViewDef};
-use sig_expr::{Caps, MapExpr, SigExpr, VecExpr, View};
+use sig_expr::{Caps, MOST_SHOWN, MapExpr, SigExpr, VecExpr, View};
 use std::alloc::Global;
-
-/// The longest list or map that an expression may show.
-const MOST_SHOWN: u64 = 65536;
 
 /// The most entries that a share's history may have.
 const MOST_ROOM: u64 = 1_048_576;

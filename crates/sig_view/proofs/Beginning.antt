@@ -16,7 +16,7 @@ use Rattle.sig_nodes.proofs.FirstRows.{leaf_within}
 use Rattle.sig_rows.proofs.Numbering.{same_leaves, view_short, within_caps}
 use Rattle.sig_view.specs.FirstPolls.{HasBegun}
 use Rattle.sig_walk.specs.Fetching.{AreFetched, HasTried, LacksBy, at_start, content_in, is_missing, is_nothing}
-use Rattle.sig_rows.specs.Longest.{longest}
+use Rattle.sig_expr.specs.Lengths.{longest}
 use Rattle.sig_nodes.specs.Nodes.{view_ops}
 use Rattle.sig_view.specs.Polling.{HasFetched, IsPoll, IsSameTask}
 use Rattle.sig_hist.specs.Ways.{AreWithin}

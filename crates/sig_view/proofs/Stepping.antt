@@ -17,7 +17,7 @@ use Rattle.sig_walk.proofs.Staying.{same_contents, seen_in_order, source_of_leaf
 use Rattle.sig_hist.specs.Ways.{Way, GoOn, contents_at, leaf_source, ways}
 use Rattle.sig_rows.specs.Flow.{flow, tags_after, with_tags}
 use Rattle.sig_view.specs.GoingOn.{HasLost, HasStepped}
-use Rattle.sig_rows.specs.Longest.{longest}
+use Rattle.sig_expr.specs.Lengths.{longest}
 use Rattle.sig_nodes.specs.Nodes.{ViewStands, op_tags, view_tree_of}
 use Rattle.sig_rows.specs.SoundRows.{IsNextRow, IsShownBy, Seen, seen_after, tags_of}
 use Rattle.sig_view.specs.Polling.{IsSameTask}

@@ -10,7 +10,7 @@ use Rattle.sig_hist.specs.Ports.{IsSoundPort, PortState}
 use Rattle.sig_hist.specs.Sources.{Source}
 use Rattle.sig_ops.specs.Enumerating.{Enumeration}
 use Rattle.sig_walk.specs.Fetching.{AreFetched}
-use Rattle.sig_rows.specs.Longest.{longest}
+use Rattle.sig_expr.specs.Lengths.{longest}
 use Rattle.sig_nodes.specs.Nodes.{ViewOps, ViewStands, map, op_tags, view_ops, view_tree_of}
 use Rattle.sig_hist.specs.Ways.{contents_at}
 use Rattle.sig_walk.specs.Walking.{CanWalk, sources_in}

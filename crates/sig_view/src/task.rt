@@ -9,7 +9,7 @@ ghost use Rattle.sig_walk.specs.Fetching.{AreFetched, HasTried, at_start, conten
 ghost use Rattle.sig_view.specs.FirstPolls.{HasBegun};
 ghost use Rattle.sig_rows.specs.Flow.{flow, tags_after, with_tags};
 ghost use Rattle.sig_view.specs.GoingOn.{HasGoneOn, HasLost, HasStepped, IsAnswered, IsBehind};
-ghost use Rattle.sig_rows.specs.Longest.{longest};
+ghost use Rattle.sig_expr.specs.Lengths.{longest};
 ghost use Rattle.sig_nodes.specs.Nodes.{op_tags, view_ops, view_tree_of, ViewStands};
 ghost use Rattle.sig_view.specs.Polling.{IsPoll, IsSameTask};
 ghost use Rattle.sig_hist.specs.Ways.{contents_at, ways};

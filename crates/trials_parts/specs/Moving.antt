@@ -11,7 +11,7 @@ use Rattle.sig_hist.specs.Sources.{Source, IsIn, IsSource, room_of}
 use Rattle.sig_hist.specs.declared.bells.PlainLeaf.{PlainLeaf}
 use Rattle.sig_hist.specs.declared.ports.Met.{Met}
 use Rattle.sig_hist.specs.declared.ports.Version.{Version}
-use Rattle.sig_rows.specs.Longest.{longest}
+use Rattle.sig_expr.specs.Lengths.{longest}
 
 -- the source as far as it was seen, how many entries it had when it was last looked at, and the leaves on it
 pub record OneSource : Type 0 where

@@ -8,7 +8,7 @@ use Rattle.sig_expr.specs.declared.expressions.VecExpr
 use Rattle.sig_nodes.proofs.MapStarts.{key_is, keys_is, leaf_within, started_few, values_is}
 use Rattle.sig_nodes.proofs.StartsShort.{concat_needs, concat_tree, first_fits, flatten_needs, flatten_tree, pick_tree}
 use Rattle.sig_walk.specs.Fetching.{content_in}
-use Rattle.sig_rows.specs.Longest.{vec_longest, vecs_longest}
+use Rattle.sig_expr.specs.Lengths.{vec_longest, vecs_longest}
 use Rattle.sig_nodes.specs.Starting.{leaf_length}
 use Rattle.sig_diff.specs.Choosing.{list_for}
 use Rattle.sig_expr.specs.Evaluation.{list_of, lists_of}

@@ -4,7 +4,7 @@ use Rattle.sig_expr.specs.Leaves.{number_sigs, number_vecs, sigs_leaves, vecs_le
 use Rattle.sig_expr.specs.Shapes.{sig_tree, sig_trees, vec_tree, vec_trees}
 use Rattle.sig_nodes.proofs.BankStarts.{AreStarted}
 use Rattle.sig_walk.specs.Fetching.{content_in}
-use Rattle.sig_rows.specs.Longest.{sigs_longest, vecs_longest}
+use Rattle.sig_expr.specs.Lengths.{sigs_longest, vecs_longest}
 use Rattle.sig_nodes.specs.Nodes.{list_ops, one_list, one_signal, signal_ops}
 use Rattle.sig_nodes.specs.Starting.{AreListsStarted, AreSignalsStarted, leaf_length}
 use Rattle.sig_nodes.proofs.starting.+start.Given as goal

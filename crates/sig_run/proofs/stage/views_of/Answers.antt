@@ -7,7 +7,7 @@ use Rattle.sig_run.proofs.Starting.{first_next, fresh_next}
 use Rattle.sig_run.proofs.stage.views_of.Goals as goal
 use Rattle.sig_run.specs.Watching.{IsFresh}
 use Rattle.sig_script.specs.declared.types.ViewDef.{ViewDef}
-use Rattle.sig_rows.specs.Longest.{longest}
+use Rattle.sig_expr.specs.Lengths.{longest}
 
 pub new-requires : goal.new-requires
 new-requires c =
