@@ -22,7 +22,7 @@ use Rattle.sig_hist.specs.declared.ports.Version.{Version}
 use Rattle.sig_walk.proofs.Trying.{get_set_other, get_set_same, seen_looked, unseen}
 use Rattle.sig_walk.proofs.Staying.{looked_again, source_of_leaf}
 use Rattle.sig_hist.specs.Ways.{AreWithin, GoOn, ways}
-use Rattle.sig_walk.specs.Walking.{CanWalk, HasLooked, HasWalked, IsEntering, Progress, arrived, first_held, held_up, kept_first, list_entered, map_entered, mark_of, marked, number_entered, seen_source, seen_sources, sources_in}
+use Rattle.sig_walk.specs.Walking.{CanWalk, HasLooked, HasNews, HasWalked, IsEntering, Progress, arrived, first_held, held_up, kept_first, list_entered, map_entered, mark_of, marked, number_entered, seen_source, seen_sources, sources_in}
 
 -- ---- what calls of a port leave
 
@@ -241,6 +241,12 @@ module _ (s u : PortState) (old : Progress) (leaf : ℕ) (can : CanWalk s old) (
 
     pub vain_looked : IsFetchInVain u t (u.source (old.first + leaf)) → HasLooked s t
     vain_looked vain = later (u.source (old.first + leaf)) (t.seen (u.source (old.first + leaf))) (t.count (u.source (old.first + leaf))) vain.state vain.goes_on
+
+    -- a fetch that found no memory has still seen what the look showed
+    pub vain_news : version.count ≢ slice_index old.positions leaf → IsFetchInVain u t (u.source (old.first + leaf)) → HasNews t old
+    vain_news more vain =
+        let source : t.source ≡ u.source = ap (λ (s : PortState). s.source) vain.state in
+        record { leaf = leaf; within = below; more = rw source (omega (arith, counted more, vain.goes_on.known)) }
 
     pub has_fetched : (fetched : Fetched) → version.count ≢ slice_index old.positions leaf → IsFetch u t (old.first + leaf) (Some (slice_index old.positions leaf)) fetched → HasFetched s t old leaf fetched
     has_fetched fetched more fetch =

@@ -8,3 +8,4 @@ pub mod AllTried
 pub mod Fetched
 pub mod Leaving
 pub mod Listening
+pub mod Newer

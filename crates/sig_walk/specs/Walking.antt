@@ -158,6 +158,12 @@ pub record HasWalked (s t : PortState) (old new : Progress) (leaves : List ℕ) 
 abbrev pub HasLeaves : Progress → List ℕ → Type 0
 HasLeaves walk leaves = All (λ leaf. leaf < length walk.positions) leaves
 
+-- a leaf's source has shown more than the leaf had passed
+pub record HasNews (t : PortState) (old : Progress) : Type 0 where
+  pub leaf : ℕ
+  pub within : leaf < length old.positions
+  pub more : slice_index old.positions leaf < t.count (t.source (old.first + leaf))
+
 -- the caps of the leaves' sources
 abbrev pub cap_at : List Source → ℕ → ℕ
 cap_at sources leaf = (leaf_source sources leaf).plan.cap

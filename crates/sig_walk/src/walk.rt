@@ -1,8 +1,8 @@
-ghost use Rattle.std.specs.Prelude.{◌≡◌, ◌∷◌, [], ◌<◌, length, map, IfOk, OnOk};
+ghost use Rattle.std.specs.Prelude.{◌≡◌, ◌∷◌, [], ◌<◌, length, map, IfOk, OnErr, OnOk};
 ghost use Rattle.sig_hist.specs.Ways.{ways};
 ghost use Rattle.sig_walk.specs.declared.walk.Mark.TheVariants.{Skipped};
 ghost use Rattle.sig_walk.specs.Fetching.{IsTried, at_start};
-ghost use Rattle.sig_walk.specs.Walking.{CanWalk, HasGone, HasWalked, IsEntering, arrived, held_up, mark_of, marked, set_out, sources_in};
+ghost use Rattle.sig_walk.specs.Walking.{CanWalk, HasGone, HasNews, HasWalked, IsEntering, arrived, held_up, mark_of, marked, set_out, sources_in};
 
 use crate::fetching::content_entered;
 use sig_diff::{Content, NoMemory};
@@ -61,7 +61,8 @@ impl Walk {
     }
 
     /// Looks at a leaf's source. Where there is more than the leaf has passed, the leaf goes to the end of the
-    /// history, and what enters on the way is the answer; where the source is found held, it stays.
+    /// history, and what enters on the way is the answer; where the source is found held, it stays. Memory is wanting only where
+    /// there is more.
     pub fn enter<P: Port>(&mut self, port: &mut P, leaf: usize) -> Result<Entering, NoMemory>
         requires can { CanWalk (P.state port.old) self.old }
         requires leaf { leaf < length self.old.positions }
@@ -69,6 +70,7 @@ impl Walk {
         ensures gone { HasGone (P.state port.old) (P.state port.new) self.old self.new }
         ensures walked { OnOk result (HasWalked (P.state port.old) (P.state port.new) self.old self.new (leaf ∷ [])) }
         ensures entering { IfOk result (IsEntering (ways (sources_in (P.state port.new) self.new) self.old.positions self.new.positions leaf)) }
+        ensures news { OnErr result (HasNews (P.state port.new) self.old) }
     {
         let position = self.positions[leaf];
         let version = port.look(self.first + leaf);

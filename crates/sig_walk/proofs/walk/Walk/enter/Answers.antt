@@ -4,7 +4,7 @@ use Rattle.std.proofs.lemmas.List.{length-set}
 use Rattle.sig_hist.specs.Ports.{IsFetch, IsSight, PortState, looked}
 use Rattle.sig_hist.specs.declared.ports.Fetched.{Fetched}
 use Rattle.sig_hist.specs.declared.ports.Version.{Version}
-use Rattle.sig_walk.proofs.Arriving.{HasFetched, arrived_enters, arrived_walked, counted, has_fetched, held_up_walked, looked_at, none_met, stayed_walked, vain_looked}
+use Rattle.sig_walk.proofs.Arriving.{HasFetched, arrived_enters, arrived_walked, counted, has_fetched, held_up_walked, looked_at, none_met, stayed_walked, vain_looked, vain_news}
 use Rattle.sig_walk.proofs.Trying.{gone_set, gone_stays}
 use Rattle.sig_walk.specs.Walking.{CanWalk, Progress}
 use Rattle.sig_walk.proofs.walk.Walk.enter.Goals as goal
@@ -94,3 +94,13 @@ returns-in-Err-NoMemory-clause-gone g c =
     let number = same_number _ _ c.args.leaf c.self.view_is in
     let looked = vain_looked s u c.args.self.now c.args.leaf c.requires.can c.requires.leaf c.look-version.result (rw number at c.look-version.ensures.sight) (rw number at c.look-version.ensures.state) t (rw (number, c.in-Err-NoMemory.field-0-is) at c.in-Err-NoMemory.ensures.err) in
     gone_stays s t c.args.self.now c.args.self.now c.requires.can c.in-Err-NoMemory.ensures.sound looked refl refl refl
+
+pub returns-in-Err-NoMemory-clause-news : goal.returns-in-Err-NoMemory-clause-news
+returns-in-Err-NoMemory-clause-news g c =
+    let s : PortState = g.P.Port.state c.args.port.now in
+    let u : PortState = g.P.Port.state c.look-version.new.self in
+    let t : PortState = g.P.Port.state c.fetch.new.self in
+    let number = same_number _ _ c.args.leaf c.self.view_is in
+    let position = same_position _ _ c.args.leaf _ c.self.view_is c.requires.leaf c.index-position.ensures in
+    vain_news s u c.args.self.now c.args.leaf c.requires.can c.requires.leaf c.look-version.result (rw number at c.look-version.ensures.sight) (rw number at c.look-version.ensures.state) t
+    (rw position at c.if-version-position.false) (rw (number, c.in-Err-NoMemory.field-0-is) at c.in-Err-NoMemory.ensures.err)
