@@ -56,6 +56,13 @@ impl FilterBy {
         passing(items.alloc(), &test, items.as_slice())
     }
 
+    /// How many signals the bank has.
+    pub fn signal_count(&self) -> usize
+        ensures { result ≡ length self.now.signals }
+    {
+        self.signals.len()
+    }
+
     /// Adds what it gives for a difference of the list: what a filter by the signals' present values does.
     pub fn step_list(&mut self, diff: &VecDiff<i64>, given: &mut Diffs<i64>) -> Result<(), NoMemory>
         requires lawful { IsLawful diff.now (length self.old.items) }

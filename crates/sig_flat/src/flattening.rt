@@ -54,6 +54,13 @@ impl Flatten {
         joined(outer.alloc(), bank.as_slice(), outer.as_slice())
     }
 
+    /// How many lists the bank has.
+    pub fn part_count(&self) -> usize
+        ensures { result ≡ length self.now.parts }
+    {
+        self.parts.len()
+    }
+
     /// Adds what is given for a difference of the outer list.
     pub fn step_list(&mut self, diff: &VecDiff<i64>, given: &mut Diffs<i64>) -> Result<(), NoMemory>
         requires lawful { IsLawful diff.now (length self.old.outer) }
