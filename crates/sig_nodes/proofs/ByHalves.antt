@@ -1,5 +1,5 @@
 -- Two lists, one behind the other: the left one has gone on, and then the right one.
-use Rattle.std.proofs.Common.{ℤ, ◌≡◌, ◌∙◌, ℕ, List, ◌++◌, length, refl, sym, ap, arith}
+use Rattle.std.proofs.Common.{ℤ, ◌≡◌, ◌≢◌, ◌∙◌, ℕ, List, [], ◌++◌, length, refl, sym, ap, arith}
 use Rattle.std.specs.List.{fold}
 use Rattle.sig_diff.specs.declared.contents.Content.{Content}
 use Rattle.sig_diff.specs.declared.differences.VecDiff.{VecDiff}
@@ -13,6 +13,7 @@ use Rattle.sig_nodes.proofs.ByList.{list_reaches, list_short, list_stays}
 use Rattle.sig_nodes.proofs.Carrying.{carries}
 use Rattle.sig_nodes.proofs.CarryingShort.{goes_within, same_caps}
 use Rattle.sig_nodes.proofs.Parts.{FirstGone, BothGone, list_part, list_gone, holds_at, rest_has, rest_apart, rest_holds, both_gone, both_walked, first_flow, second_flow, held, all_front, distinct_front, each_less}
+use Rattle.sig_nodes.proofs.News.{both_news}
 use Rattle.sig_nodes.proofs.Standing.{list_stands}
 use Rattle.sig_nodes.specs.Nodes.{ListOps, list_tree, halves_of}
 use Rattle.sig_nodes.specs.Steps.{ListGone, ListMayGo}
@@ -22,7 +23,7 @@ use Rattle.sig_rows.proofs.HalvesReach.{left_after, lengths, right_after}
 use Rattle.sig_rows.proofs.Entered.{Reaches}
 use Rattle.sig_rows.specs.Flow.{half_flow}
 use Rattle.sig_rows.specs.Joins.{MayJoin}
-use Rattle.sig_walk.specs.Walking.{Progress, sources_in, cap_at}
+use Rattle.sig_walk.specs.Walking.{HasNews, Progress, sources_in, cap_at}
 
 pub left_may_go : {s : PortState} {walk : Progress} {op : Halves} {of other : ListOps} → ListMayGo s walk (halves_of op of other) → ListMayGo s walk of
 left_may_go {walk = walk} {of = of} {other = other} may = record {
@@ -50,6 +51,9 @@ module _ {s t : PortState} {old mid : Progress} {op : Halves} {of after right : 
   module _ {u : PortState} {new : Progress} {rest : ListOps} {others : List (VecDiff ℤ)} (second : ListGone t u mid new right rest others) where
     abbrev both : BothGone (list_part (list_tree of)) (list_part (list_tree right)) s t u old mid new diffs others
     both = record { one = one; second = list_gone second }
+
+    pub halves_news : (diffs ≡ [] → others ≢ []) → HasNews u old
+    halves_news some = both_news both some
 
     abbrev holds : ℕ → Content
     holds = holds_at s old

@@ -2,6 +2,8 @@ pub mod Carrying
 pub mod CarryingShort
 pub mod Giving
 pub mod Parts
+pub mod OverGiven
+pub mod News
 pub mod ByBank
 pub mod ByChooser
 pub mod ListArms

@@ -4,13 +4,17 @@ use Rattle.std.proofs.lemmas.Bool.{eqb-true}
 use Rattle.sig_diff.specs.declared.contents.Content.{Content}
 use Rattle.sig_expr.proofs.Awaiting.{IsAmong, none, kept, left_out, agree_among, sig_among, sig_part_among, sig_part_same, sigs_among, sigs_same, vec_among, vec_part_among, vec_part_same, vecs_among, vecs_same}
 use Rattle.sig_expr.specs.Leaves.{sig_leaves, sigs_leaves, vec_leaves, vecs_leaves}
-use Rattle.sig_expr.specs.Trees.{SigTree, SigTrees, VecTree, VecTrees}
+use Rattle.sig_expr.specs.Trees.{SigTree, SigTrees, VecTree, VecTrees, more_lists, more_signals, no_lists, no_signals}
 use Rattle.sig_diff.specs.declared.differences.VecDiff.{VecDiff}
 use Rattle.sig_expr.specs.Awaited.{Agree, all_of, each_sig_awaits, each_vec_awaits, sig_awaits, vec_awaits}
 use Rattle.sig_hist.specs.Ports.{PortState}
 use Rattle.sig_hist.specs.Sources.{AreDistinct, is_among}
 use Rattle.sig_rows.proofs.Along.{AlikeOn, AreAlike, each_agrees, each_alike, same_awaited_list, same_awaited_value, same_list_flow, same_list_flows, same_value_flow, same_value_flows}
+use Rattle.sig_rows.proofs.Still.{still_list, still_value}
 use Rattle.sig_rows.specs.Flow.{list_flow, list_flows, value_flow, value_flows}
+use Rattle.sig_nodes.specs.Banks.{lists_given, values_given}
+use Rattle.sig_nodes.specs.declared.banks.Given.{Given}
+use Rattle.sig_nodes.specs.declared.banks.GivenList.{GivenList}
 use Rattle.sig_nodes.specs.Nodes.{ListOps, SignalOps, list_tree, signal_tree}
 use Rattle.sig_nodes.specs.Steps.{ListGone, SignalGone}
 use Rattle.sig_walk.proofs.Arriving.{reaches}
@@ -106,14 +110,20 @@ holds_at s walk = contents_at (sources_in s walk) walk.positions
 abbrev pub gone_by : PortState → Progress → Progress → ℕ → Way
 gone_by t old new = ways (sources_in t new) old.positions new.positions
 
--- a part of a view: its leaves, those of them that it awaits, and what it gives on the ways of its leaves
-pub record Part (Given : Type 0) : Type 0 where
+-- leaves stay where they are
+abbrev pub AllStay : (ℕ → Way) → Type 0
+AllStay way = (leaf : ℕ) → (way leaf).from ≡ (way leaf).to
+
+-- a part of a view: its leaves, those of them that it awaits, and what it gives on the ways of its leaves, nothing where they stay
+pub record Part (G : Type 0) : Type 0 where
   pub leaves : List ℕ
   pub awaits : (ℕ → Content) → List ℕ
-  pub flow : (ℕ → Way) → Given
+  pub flow : (ℕ → Way) → G
   pub among : (s : ℕ → Content) → IsAmong (awaits s) leaves
   pub same_awaits : (s t : ℕ → Content) → Agree s t leaves → awaits s ≡ awaits t
   pub same_flow : (way other : ℕ → Way) → AlikeOn way other leaves → flow way ≡ flow other
+  pub nothing : G
+  pub still : (way : ℕ → Way) → AllStay way → flow way ≡ nothing
 
 abbrev pub list_part : VecTree ℕ → Part (List (VecDiff ℤ))
 list_part e = record {
@@ -123,6 +133,8 @@ list_part e = record {
   among = λ s. vec_among s e;
   same_awaits = λ s t agree. same_awaited_list s t e agree;
   same_flow = λ way other alike. same_list_flow way other e alike;
+  nothing = [];
+  still = λ way stays. still_list way stays e;
 }
 
 abbrev pub signal_part : SigTree ℕ → Part (Option ℤ)
@@ -133,30 +145,54 @@ signal_part e = record {
   among = λ s. sig_among s e;
   same_awaits = λ s t agree. same_awaited_value s t e agree;
   same_flow = λ way other alike. same_value_flow way other e alike;
+  nothing = None;
+  still = λ way stays. still_value way stays e;
 }
 
--- the parts of a bank
-abbrev pub lists_part : VecTrees ℕ → Part (List (List (VecDiff ℤ)))
-lists_part bank = record {
+-- the parts of a bank from a place on
+pub no_lists_given : (way : ℕ → Way) → AllStay way → (place : ℕ) (bank : VecTrees ℕ) → lists_given place (list_flows way bank) ≡ []
+no_lists_given way stays place no_lists = refl
+no_lists_given way stays place (more_lists e bank) = rw (still_list way stays e) (no_lists_given way stays (place + 1) bank)
+
+pub no_values_given : (way : ℕ → Way) → AllStay way → (place : ℕ) (bank : SigTrees ℕ) → values_given place (value_flows way bank) ≡ []
+no_values_given way stays place no_signals = refl
+no_values_given way stays place (more_signals e bank) = rw (still_value way stays e) (no_values_given way stays (place + 1) bank)
+
+abbrev pub lists_part : ℕ → VecTrees ℕ → Part (List GivenList)
+lists_part place bank = record {
   leaves = vecs_leaves bank;
   awaits = λ s. all_of (each_vec_awaits s bank);
-  flow = λ way. list_flows way bank;
+  flow = λ way. lists_given place (list_flows way bank);
   among = λ s. vecs_among s bank;
   same_awaits = λ s t agree. (vecs_same s t bank (agree_among s t (vecs_among s bank) agree)).awaited;
-  same_flow = λ way other alike. same_list_flows way other bank alike;
+  same_flow = λ way other alike. ap (lists_given place) (same_list_flows way other bank alike);
+  nothing = [];
+  still = λ way stays. no_lists_given way stays place bank;
 }
 
-abbrev pub signals_part : SigTrees ℕ → Part (List (Option ℤ))
-signals_part bank = record {
+abbrev pub signals_part : ℕ → SigTrees ℕ → Part (List Given)
+signals_part place bank = record {
   leaves = sigs_leaves bank;
   awaits = λ s. all_of (each_sig_awaits s bank);
-  flow = λ way. value_flows way bank;
+  flow = λ way. values_given place (value_flows way bank);
   among = λ s. sigs_among s bank;
   same_awaits = λ s t agree. (sigs_same s t bank (agree_among s t (sigs_among s bank) agree)).awaited;
-  same_flow = λ way other alike. same_value_flows way other bank alike;
+  same_flow = λ way other alike. ap (values_given place) (same_value_flows way other bank alike);
+  nothing = [];
+  still = λ way stays. no_values_given way stays place bank;
 }
 
 -- the one at a place of a bank
+pub no_list_at : (way : ℕ → Way) → AllStay way → (bank : VecTrees ℕ) (place : ℕ) → get_or (list_flows way bank) place [] ≡ []
+no_list_at way stays no_lists place = refl
+no_list_at way stays (more_lists e bank) zero = still_list way stays e
+no_list_at way stays (more_lists e bank) (suc place) = no_list_at way stays bank place
+
+pub no_value_at : (way : ℕ → Way) → AllStay way → (bank : SigTrees ℕ) (place : ℕ) → get_or (value_flows way bank) place None ≡ None
+no_value_at way stays no_signals place = refl
+no_value_at way stays (more_signals e bank) zero = still_value way stays e
+no_value_at way stays (more_signals e bank) (suc place) = no_value_at way stays bank place
+
 abbrev pub list_at_part : VecTrees ℕ → ℕ → Part (List (VecDiff ℤ))
 list_at_part bank place = record {
   leaves = vecs_leaves bank;
@@ -165,6 +201,8 @@ list_at_part bank place = record {
   among = λ s. vec_part_among s bank place;
   same_awaits = λ s t agree. (vec_part_same s t bank place (agree_among s t (vec_part_among s bank place) agree)).awaited;
   same_flow = λ way other alike. ap (λ (flows : List (List (VecDiff ℤ))). get_or flows place []) (same_list_flows way other bank alike);
+  nothing = [];
+  still = λ way stays. no_list_at way stays bank place;
 }
 
 abbrev pub signal_at_part : SigTrees ℕ → ℕ → Part (Option ℤ)
@@ -175,6 +213,8 @@ signal_at_part bank place = record {
   among = λ s. sig_part_among s bank place;
   same_awaits = λ s t agree. (sig_part_same s t bank place (agree_among s t (sig_part_among s bank place) agree)).awaited;
   same_flow = λ way other alike. ap (λ (flows : List (Option ℤ)). get_or flows place None) (same_value_flows way other bank alike);
+  nothing = None;
+  still = λ way stays. no_value_at way stays bank place;
 }
 
 -- ---- a part that has gone
@@ -183,7 +223,7 @@ pub gone_twice : {s t u : PortState} {old mid new : Progress} → HasGone s t ol
 gone_twice {s} {t} {u} {old} {mid} {new} gone went = gone_again s t u old mid new gone went
 
 -- its awaited leaves were taken along, and it gives this on the way
-pub record PartGone {Given : Type 0} (part : Part Given) (s t : PortState) (old new : Progress) (given : Given) : Type 0 where
+pub record PartGone {G : Type 0} (part : Part G) (s t : PortState) (old new : Progress) (given : G) : Type 0 where
   pub gone : HasGone s t old new
   pub walked : HasWalked s t old new (part.awaits (holds_at t new))
   pub flow : given ≡ part.flow (gone_by t old new)
@@ -195,13 +235,13 @@ abbrev pub signal_gone : {s t : PortState} {old new : Progress} {ops after : Sig
 signal_gone is = record { gone = is.gone; walked = is.walked; flow = is.flow }
 
 -- the first of two parts with leaves of their own
-pub record FirstGone {Given : Type 0} (part : Part Given) (more : List ℕ) (s t : PortState) (old mid : Progress) (given : Given) : Type 0 where
+pub record FirstGone {G : Type 0} (part : Part G) (more : List ℕ) (s t : PortState) (old mid : Progress) (given : G) : Type 0 where
   pub can : CanWalk s old
   pub has : HasLeaves old (part.leaves ++ more)
   pub apart : AreDistinct (part.leaves ++ more)
   pub first : PartGone part s t old mid given
 
-module _ {Given : Type 0} {part : Part Given} {more : List ℕ} {s t : PortState} {old mid : Progress} {given : Given} (is : FirstGone part more s t old mid given) where
+module _ {G : Type 0} {part : Part G} {more : List ℕ} {s t : PortState} {old mid : Progress} {given : G} (is : FirstGone part more s t old mid given) where
   -- the leaves held then what they held
   pub first_held : contents_at (sources_in t mid) old.positions ≡ holds_at s old
   first_held = held_before s t old mid is.can is.first.gone
@@ -225,11 +265,11 @@ module _ {Given : Type 0} {part : Part Given} {more : List ℕ} {s t : PortState
       sym (ap (λ (holds : ℕ → Content). holds leaf) first_held) ∙ ap (state_at (leaf_source (sources_in t mid) leaf)) (sym (stayed leaf among)))
 
 -- and then the second
-pub record BothGone {Given More : Type 0} (part : Part Given) (other : Part More) (s t u : PortState) (old mid new : Progress) (given : Given) (more : More) : Type 0 where
+pub record BothGone {G More : Type 0} (part : Part G) (other : Part More) (s t u : PortState) (old mid new : Progress) (given : G) (more : More) : Type 0 where
   pub one : FirstGone part other.leaves s t old mid given
   pub second : PartGone other t u mid new more
 
-module _ {Given More : Type 0} {part : Part Given} {other : Part More} {s t u : PortState} {old mid new : Progress} {given : Given} {more : More}
+module _ {G More : Type 0} {part : Part G} {other : Part More} {s t u : PortState} {old mid new : Progress} {given : G} {more : More}
     (both : BothGone part other s t u old mid new given more) where
   abbrev first : PartGone part s t old mid given
   first = both.one.first

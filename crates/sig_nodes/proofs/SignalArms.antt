@@ -1,5 +1,5 @@
 -- A step of a signal's operators on one signal below it, and of a bank's parts: what they need, and what is left.
-use Rattle.std.proofs.Common.{ℤ, Option, None, ◌≡◌, ◌∙◌, ℕ, suc, List, [], ◌∷◌, ◌++◌, length, refl, sym, ap, append_assoc, option_and_then, option_map}
+use Rattle.std.proofs.Common.{ℤ, Option, None, ◌≡◌, ◌∙◌, ℕ, suc, ◌+◌, List, [], ◌∷◌, ◌++◌, length, refl, sym, ap, append_assoc, option_and_then, option_map}
 use Rattle.std.proofs.lemmas.List.{append-nil}
 use Rattle.std.specs.Option.{unwrap_or}
 use Rattle.sig_diff.specs.declared.differences.VecDiff.{VecDiff}
@@ -14,6 +14,9 @@ use Rattle.sig_nodes.proofs.ByChooser.{still_stands}
 use Rattle.sig_nodes.proofs.CarryingShort.{same_caps}
 use Rattle.sig_nodes.proofs.Parts.{FirstGone, BothGone, list_part, signal_part, signals_part, list_gone, signal_gone, holds_at, gone_by, rest_has, rest_apart, rest_holds, both_gone, both_walked, first_flow, second_flow, all_front, all_back, distinct_front, distinct_back, none_of_both, not_among_fewer, unwalked_holds, less}
 use Rattle.sig_nodes.proofs.Standing.{list_stands, signals_stand, signal_stands, lists_stand}
+use Rattle.sig_nodes.proofs.OverGiven.{value_first}
+use Rattle.sig_nodes.specs.Banks.{values_given}
+use Rattle.sig_nodes.specs.declared.banks.Given.{Given}
 use Rattle.sig_nodes.specs.Nodes.{ListOps, SignalOps, list_tree, signal_tree, SignalsOps, signal_trees, ListsOps, list_trees, no_list, one_list, image_of, no_signal, one_signal, without_repeats}
 use Rattle.sig_nodes.specs.Steps.{ListGone, SignalGone, SignalsGone, ListMayGo, ListsMayGo, ListAtGone, SignalMayGo, SignalsMayGo, SignalAtGone}
 use Rattle.sig_ops.specs.Signals.{given}
@@ -64,8 +67,8 @@ module _ {s : PortState} {walk : Progress} {of : SignalOps} {bank : SignalsOps} 
     stands = may.stands.1;
   }
 
-pub none_gone : (s : PortState) (walk : Progress) (before : List (Option ℤ)) → HasGone s s walk walk → SignalsGone s s walk walk no_signal no_signal before before
-none_gone s walk before gone = record { gone = gone; walked = not_walked s walk; flow = sym (append-nil before); stands = tt; tree = refl }
+pub none_gone : (s : PortState) (walk : Progress) (place : ℕ) (before : List Given) → HasGone s s walk walk → SignalsGone s s walk walk place no_signal no_signal before before
+none_gone s walk place before gone = record { gone = gone; walked = not_walked s walk; flow = sym (append-nil before); stands = tt; tree = refl }
 
 pub none_at_gone : (s : PortState) (walk : Progress) (place : ℕ) → HasGone s s walk walk → SignalAtGone s s walk walk place no_signal no_signal None
 none_at_gone s walk place gone = record { gone = gone; walked = not_walked s walk; flow = refl; stands = tt; tree = refl }
@@ -83,15 +86,15 @@ module _ {s t : PortState} {old mid : Progress} {of after : SignalOps} {bank : S
     stands = signals_stand _ _ bank (rest_holds one) may.stands.1;
   }
 
-  pub all_gone : {u : PortState} {new : Progress} {rest : SignalsOps} {before between values : List (Option ℤ)} → between ≡ before ++ value ∷ [] → SignalsGone t u mid new bank rest between values →
-      SignalsGone s u old new (one_signal of bank) (one_signal after rest) before values
-  all_gone {u} {new} {rest} {before} {between} {values} between_is second =
-      let both : BothGone (signal_part (signal_tree of)) (signals_part (signal_trees bank)) s t u old mid new value (value_flows (gone_by u mid new) (signal_trees bank)) =
+  pub all_gone : {u : PortState} {new : Progress} {rest : SignalsOps} {place : ℕ} {before between values : List Given} → between ≡ before ++ values_given place (value ∷ []) → SignalsGone t u mid new (place + 1) bank rest between values →
+      SignalsGone s u old new place (one_signal of bank) (one_signal after rest) before values
+  all_gone {u} {new} {rest} {place} {before} {between} {values} between_is second =
+      let both : BothGone (signal_part (signal_tree of)) (signals_part (place + 1) (signal_trees bank)) s t u old mid new value (values_given (place + 1) (value_flows (gone_by u mid new) (signal_trees bank))) =
       record { one = one; second = record { gone = second.gone; walked = second.walked; flow = refl } } in
       record {
         gone = both_gone both;
         walked = both_walked both;
-        flow = second.flow ∙ rw (between_is, ← first_flow both, ← second_flow both) (append_assoc before (value ∷ []) _);
+        flow = second.flow ∙ rw (between_is, ← first_flow both, ← second_flow both) (append_assoc before (values_given place (value ∷ [])) _) ∙ ap (λ (given : List Given). before ++ given) (sym (value_first place value (value_flows (gone_by u old new) (signal_trees bank))));
         stands = (still_stands first both, second.stands);
         tree = rw (first.tree, second.tree) refl;
       }

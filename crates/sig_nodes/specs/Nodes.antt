@@ -1,5 +1,5 @@
 -- The operators of a view as trees beside its expression, and when they stand for contents of the leaves.
-use Rattle.std.specs.Prelude.{◌≡◌, ℕ, ℤ, List, length, Bool, true, false, Option, None, Some}
+use Rattle.std.specs.Prelude.{◌≡◌, ℕ, suc, ℤ, List, length, Bool, true, false, Option, None, Some}
 use Rattle.sig_bank.specs.Banks.{BySignals, Choice}
 use Rattle.sig_diff.specs.Entries.{value_at}
 use Rattle.sig_diff.specs.declared.contents.Content.{Content}
@@ -64,6 +64,15 @@ has_no_signal (one_signal ops bank) = false
 abbrev pub has_no_list : ListsOps → Bool
 has_no_list no_list = true
 has_no_list (one_list ops bank) = false
+
+-- how many parts a bank has
+abbrev pub signal_count : SignalsOps → ℕ
+signal_count no_signal = 0
+signal_count (one_signal ops bank) = suc (signal_count bank)
+
+abbrev pub list_count : ListsOps → ℕ
+list_count no_list = 0
+list_count (one_list ops bank) = suc (list_count bank)
 
 -- a map's operators keep nothing: they are the expression that they work on
 abbrev pub map_step : MapNode-F (MapTree ℕ) → MapTree ℕ

@@ -10,6 +10,9 @@ use Rattle.sig_hist.specs.Ports.{PortState}
 use Rattle.sig_hist.specs.Sources.{AreDistinct}
 use Rattle.sig_rows.specs.Flow.{list_flow, list_flows, map_flow, value_flow, value_flows}
 use Rattle.sig_expr.specs.Lengths.{sig_longest, sigs_longest, vec_longest, vecs_longest}
+use Rattle.sig_nodes.specs.Banks.{lists_given, values_given}
+use Rattle.sig_nodes.specs.declared.banks.Given.{Given}
+use Rattle.sig_nodes.specs.declared.banks.GivenList.{GivenList}
 use Rattle.sig_nodes.specs.Nodes.{ListOps, ListStands, ListsOps, ListsStand, SignalOps, SignalStands, SignalsOps, SignalsStand, list_tree, list_trees, signal_tree, signal_trees}
 use Rattle.sig_hist.specs.Ways.{contents_at, ways}
 use Rattle.sig_walk.specs.Walking.{CanWalk, HasGone, HasLeaves, HasWalked, Progress, cap_at, sources_in}
@@ -75,11 +78,11 @@ module _ (s t : PortState) (old new : Progress) where
     pub walked : HasWalked s t old new (map_leaves m)
     pub flow : diffs ≡ map_flow (ways (sources_in t new) old.positions new.positions) m
 
-  -- all signals of a bank, whose values come behind others; the signal at a place; the list at a place
-  pub record SignalsGone (bank after : SignalsOps) (before values : List (Option ℤ)) : Type 0 where
+  -- all signals of a bank from a place on, whose values come behind others; the signal at a place; the list at a place
+  pub record SignalsGone (place : ℕ) (bank after : SignalsOps) (before values : List Given) : Type 0 where
     pub gone : HasGone s t old new
     pub walked : HasWalked s t old new (all_of (each_sig_awaits (contents_at (sources_in t new) new.positions) (signal_trees bank)))
-    pub flow : values ≡ before ++ value_flows (ways (sources_in t new) old.positions new.positions) (signal_trees bank)
+    pub flow : values ≡ before ++ values_given place (value_flows (ways (sources_in t new) old.positions new.positions) (signal_trees bank))
     pub stands : SignalsStand (contents_at (sources_in t new) new.positions) after
     pub tree : signal_trees after ≡ signal_trees bank
 
@@ -90,11 +93,11 @@ module _ (s t : PortState) (old new : Progress) where
     pub stands : SignalsStand (contents_at (sources_in t new) new.positions) after
     pub tree : signal_trees after ≡ signal_trees bank
 
-  -- all lists of a bank
-  pub record ListsGone (bank after : ListsOps) (before lists : List (List (VecDiff ℤ))) : Type 0 where
+  -- all lists of a bank from a place on
+  pub record ListsGone (place : ℕ) (bank after : ListsOps) (before lists : List GivenList) : Type 0 where
     pub gone : HasGone s t old new
     pub walked : HasWalked s t old new (all_of (each_vec_awaits (contents_at (sources_in t new) new.positions) (list_trees bank)))
-    pub flow : lists ≡ before ++ list_flows (ways (sources_in t new) old.positions new.positions) (list_trees bank)
+    pub flow : lists ≡ before ++ lists_given place (list_flows (ways (sources_in t new) old.positions new.positions) (list_trees bank))
     pub stands : ListsStand (contents_at (sources_in t new) new.positions) after
     pub tree : list_trees after ≡ list_trees bank
 

@@ -1,35 +1,55 @@
-ghost use Rattle.std.specs.Prelude.{◌≡◌, IfOk, OnOk};
-ghost use Rattle.sig_nodes.specs.Nodes.{has_no_list, has_no_signal, lists_ops, signals_ops};
+ghost use Rattle.std.specs.Prelude.{◌≡◌, ◌≢◌, ◌+◌, ◌∷◌, ◌++◌, [], None, IfOk, OnErr, OnOk};
+ghost use Rattle.sig_nodes.specs.Banks.{lists_given, values_given};
+ghost use Rattle.sig_nodes.specs.Nodes.{has_no_list, has_no_signal, list_count, lists_ops, signal_count, signals_ops};
 ghost use Rattle.sig_nodes.specs.Steps.{ListAtGone, ListsGone, ListsMayGo, SignalAtGone, SignalsGone, SignalsMayGo};
-ghost use Rattle.sig_walk.specs.Walking.{HasGone};
+ghost use Rattle.sig_walk.specs.Walking.{HasGone, HasNews};
 
 use crate::nodes::{ListBank, SignalBank};
 use sig_diff::{Diffs, NoMemory};
 use sig_hist::Port;
 use sig_walk::Walk;
 use std::alloc::Global;
+use std::ops::Range;
+
+/// The value that a signal of a bank gave.
+#[derive(Clone, Copy, Debug)]
+pub struct Given {
+    pub place: usize,
+    pub value: i64,
+}
+
+/// The differences that a list of a bank gave.
+#[derive(Debug, Drop)]
+pub struct GivenList {
+    pub place: usize,
+    pub diffs: Diffs<i64>,
+}
 
 impl SignalBank {
-    /// Takes the leaves of all signals along, from left to right, and adds what each of them gives for that.
+    /// Takes the leaves of all signals along, from left to right, and adds the values that they give for that. These are
+    /// the signals' places.
     #[cycle(walk)]
     pub fn step<P: Port>(
         &mut self,
+        places: Range<usize>,
         alloc: Global,
         port: &mut P,
         walk: &mut Walk,
-        values: &mut Vec<Option<i64>>,
+        values: &mut Vec<Given>,
     ) -> Result<(), NoMemory>
         requires may_go { SignalsMayGo (P.state port.old) walk.old (signals_ops self.old) }
+        requires places { places.start + signal_count (signals_ops self.old) ≡ places.end }
         ensures same { P.is_same port.old port.new }
         ensures gone { HasGone (P.state port.old) (P.state port.new) walk.old walk.new }
-        ensures taken { OnOk result (SignalsGone (P.state port.old) (P.state port.new) walk.old walk.new (signals_ops self.old) (signals_ops self.new) values.old.items values.new.items) }
+        ensures taken { OnOk result (SignalsGone (P.state port.old) (P.state port.new) walk.old walk.new places.start (signals_ops self.old) (signals_ops self.new) values.old.items values.new.items) }
+        ensures news { OnErr result (HasNews (P.state port.new) walk.old) }
     {
         match self {
             SignalBank::Empty => Ok(()),
             SignalBank::Signal(signal, others) => {
                 let value = signal.step(alloc, port, walk)?;
-                values.push(value)?;
-                others.step(alloc, port, walk, values)
+                add_value(values, places.start, value)?;
+                others.step(places.start + 1..places.end, alloc, port, walk, values)
             }
         }
     }
@@ -47,6 +67,7 @@ impl SignalBank {
         ensures same { P.is_same port.old port.new }
         ensures gone { HasGone (P.state port.old) (P.state port.new) walk.old walk.new }
         ensures taken { IfOk result (SignalAtGone (P.state port.old) (P.state port.new) walk.old walk.new place (signals_ops self.old) (signals_ops self.new)) }
+        ensures news { OnErr result (HasNews (P.state port.new) walk.old) }
     {
         match self {
             SignalBank::Empty => Ok(None),
@@ -68,26 +89,30 @@ impl SignalBank {
 }
 
 impl ListBank {
-    /// Takes the leaves of all lists along, from left to right, and adds what each of them gives for that.
+    /// Takes the leaves of all lists along, from left to right, and adds the differences that they give for that. These
+    /// are the lists' places.
     #[cycle(walk)]
     pub fn step<P: Port>(
         &mut self,
+        places: Range<usize>,
         alloc: Global,
         port: &mut P,
         walk: &mut Walk,
-        lists: &mut Vec<Diffs<i64>>,
+        lists: &mut Vec<GivenList>,
     ) -> Result<(), NoMemory>
         requires may_go { ListsMayGo (P.state port.old) walk.old (lists_ops self.old) }
+        requires places { places.start + list_count (lists_ops self.old) ≡ places.end }
         ensures same { P.is_same port.old port.new }
         ensures gone { HasGone (P.state port.old) (P.state port.new) walk.old walk.new }
-        ensures taken { OnOk result (ListsGone (P.state port.old) (P.state port.new) walk.old walk.new (lists_ops self.old) (lists_ops self.new) lists.old.items lists.new.items) }
+        ensures taken { OnOk result (ListsGone (P.state port.old) (P.state port.new) walk.old walk.new places.start (lists_ops self.old) (lists_ops self.new) lists.old.items lists.new.items) }
+        ensures news { OnErr result (HasNews (P.state port.new) walk.old) }
     {
         match self {
             ListBank::Empty => Ok(()),
             ListBank::List(list, others) => {
                 let diffs = list.step(alloc, port, walk)?;
-                lists.push(diffs)?;
-                others.step(alloc, port, walk, lists)
+                add_list(lists, places.start, diffs)?;
+                others.step(places.start + 1..places.end, alloc, port, walk, lists)
             }
         }
     }
@@ -105,6 +130,7 @@ impl ListBank {
         ensures same { P.is_same port.old port.new }
         ensures gone { HasGone (P.state port.old) (P.state port.new) walk.old walk.new }
         ensures taken { IfOk result (ListAtGone (P.state port.old) (P.state port.new) walk.old walk.new place (lists_ops self.old) (lists_ops self.new)) }
+        ensures news { OnErr result (HasNews (P.state port.new) walk.old) }
     {
         match self {
             ListBank::Empty => Ok(Diffs::new(alloc)),
@@ -123,4 +149,26 @@ impl ListBank {
     {
         matches!(self, ListBank::Empty)
     }
+}
+
+/// Adds the value of the signal at a place, if it gave one.
+fn add_value(values: &mut Vec<Given>, place: usize, value: Option<i64>) -> Result<(), NoMemory>
+    ensures given { OnOk result (values.new.items ≡ values.old.items ++ values_given place (value ∷ [])) }
+    ensures some { OnErr result (value ≢ None) }
+{
+    if let Some(value) = value {
+        values.push(Given { place, value })?;
+    }
+    Ok(())
+}
+
+/// Adds the differences of the list at a place, if it gave some.
+fn add_list(lists: &mut Vec<GivenList>, place: usize, diffs: Diffs<i64>) -> Result<(), NoMemory>
+    ensures given { OnOk result (lists.new.items ≡ lists.old.items ++ lists_given place (diffs ∷ [])) }
+    ensures some { OnErr result (diffs ≢ []) }
+{
+    if !diffs.is_empty() {
+        lists.push(GivenList { place, diffs })?;
+    }
+    Ok(())
 }

@@ -1,10 +1,12 @@
-ghost use Rattle.std.specs.Prelude.{◌≡◌, ◌++◌, ◌<◌, IfOk, OnOk};
+ghost use Rattle.std.specs.Prelude.{◌≡◌, ◌≢◌, [], ◌++◌, ◌<◌, IfOk, OnErr, OnOk};
 ghost use Rattle.std.specs.List.{fold};
 ghost use Rattle.sig_flat.specs.Flattening.{outer_gives, outer_next};
 ghost use Rattle.sig_flat.specs.Joining.{Halves, joined_next};
-ghost use Rattle.sig_rows.specs.Flow.{after_part, after_parts, given_along, half_flow, part_flow, parts_flow};
-ghost use Rattle.sig_rows.specs.Joins.{MayFlatten, MayJoin, MayTakeHalf, MayTakeOuter, MayTakePart, MayTakeParts};
+ghost use Rattle.sig_rows.specs.Flow.{after_part, given_along, half_flow, part_flow};
+ghost use Rattle.sig_rows.specs.Joins.{MayJoin, MayTakeHalf, MayTakeOuter, MayTakePart};
+ghost use Rattle.sig_nodes.specs.Banks.{MayFlattenGiven, MayTakeGiven, blocks_give, blocks_next};
 
+use crate::banks::GivenList;
 use sig_diff::{Diffs, NoMemory};
 use sig_flat::{Concat, Flatten};
 use std::alloc::Global;
@@ -19,6 +21,7 @@ pub fn joined(
     requires { MayJoin op.old lefts.now rights.now }
     ensures given { IfOk result (λ given. given ≡ half_flow 0 op.old lefts.now ++ half_flow 1 (fold (λ (op : Halves). joined_next op 0) op.old lefts.now) rights.now) }
     ensures state { OnOk result (op.new ≡ fold (λ (op : Halves). joined_next op 1) (fold (λ (op : Halves). joined_next op 0) op.old lefts.now) rights.now) }
+    ensures some { OnErr result (lefts.now ≡ [] → rights.now ≢ []) }
 {
     let mut given = Diffs::new(alloc);
     give_half(op, 0, lefts, &mut given)?;
@@ -37,6 +40,7 @@ fn give_half(
     requires may_take { MayTakeHalf child op.old diffs.now }
     ensures given { OnOk result (given.new ≡ given.old ++ half_flow child op.old diffs.now) }
     ensures state { OnOk result (op.new ≡ fold (λ (op : Halves). joined_next op child) op.old diffs.now) }
+    ensures some { OnErr result (diffs.now ≢ []) }
 {
     'diffs: for diff in diffs.as_slice() {
         op.step_bank(child, diff, given)?;
@@ -44,16 +48,17 @@ fn give_half(
     Ok(())
 }
 
-/// What blocks give for differences of the outer list, and then for those of each list of the bank.
+/// What blocks give for differences of the outer list, and then for those that lists of the bank gave.
 pub fn flattened(
     alloc: Global,
     op: &mut Flatten,
     diffs: &Diffs<i64>,
-    lists: &[Diffs<i64>],
+    lists: &[GivenList],
 ) -> Result<Diffs<i64>, NoMemory>
-    requires { MayFlatten op.old diffs.now lists.now }
-    ensures given { IfOk result (λ given. given ≡ given_along outer_gives outer_next op.old diffs.now ++ parts_flow 0 (fold outer_next op.old diffs.now) lists.now) }
-    ensures state { OnOk result (op.new ≡ after_parts 0 (fold outer_next op.old diffs.now) lists.now) }
+    requires { MayFlattenGiven op.old diffs.now lists.now }
+    ensures given { IfOk result (λ given. given ≡ given_along outer_gives outer_next op.old diffs.now ++ given_along blocks_give blocks_next (fold outer_next op.old diffs.now) lists.now) }
+    ensures state { OnOk result (op.new ≡ fold blocks_next (fold outer_next op.old diffs.now) lists.now) }
+    ensures some { OnErr result (diffs.now ≡ [] → lists.now ≢ []) }
 {
     let mut given = Diffs::new(alloc);
     give_outer(op, diffs, &mut given)?;
@@ -66,6 +71,7 @@ fn give_outer(op: &mut Flatten, diffs: &Diffs<i64>, given: &mut Diffs<i64>) -> R
     requires may_take { MayTakeOuter op.old diffs.now }
     ensures given { OnOk result (given.new ≡ given.old ++ given_along outer_gives outer_next op.old diffs.now) }
     ensures state { OnOk result (op.new ≡ fold outer_next op.old diffs.now) }
+    ensures some { OnErr result (diffs.now ≢ []) }
 {
     'diffs: for diff in diffs.as_slice() {
         op.step_list(diff, given)?;
@@ -73,18 +79,19 @@ fn give_outer(op: &mut Flatten, diffs: &Diffs<i64>, given: &mut Diffs<i64>) -> R
     Ok(())
 }
 
-/// Adds what blocks give for differences of each list of the bank.
+/// Adds what blocks give for the differences that lists of the bank gave.
 fn give_parts(
     op: &mut Flatten,
-    lists: &[Diffs<i64>],
+    lists: &[GivenList],
     given: &mut Diffs<i64>,
 ) -> Result<(), NoMemory>
-    requires may_take { MayTakeParts 0 op.old lists.now }
-    ensures given { OnOk result (given.new ≡ given.old ++ parts_flow 0 op.old lists.now) }
-    ensures state { OnOk result (op.new ≡ after_parts 0 op.old lists.now) }
+    requires may_take { MayTakeGiven op.old lists.now }
+    ensures given { OnOk result (given.new ≡ given.old ++ given_along blocks_give blocks_next op.old lists.now) }
+    ensures state { OnOk result (op.new ≡ fold blocks_next op.old lists.now) }
+    ensures some { OnErr result (lists.now ≢ []) }
 {
-    'lists: for (place, diffs) in lists.iter().enumerate() {
-        give_part(op, place, diffs, given)?;
+    'lists: for list in lists {
+        give_part(op, list.place, &list.diffs, given)?;
     }
     Ok(())
 }

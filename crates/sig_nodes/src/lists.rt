@@ -1,4 +1,4 @@
-ghost use Rattle.std.specs.Prelude.{◌≡◌, ◌≤◌, length, IfOk, OnOk};
+ghost use Rattle.std.specs.Prelude.{◌≡◌, ◌≢◌, ◌≤◌, [], length, IfOk, OnErr, OnOk};
 ghost use Rattle.std.specs.List.{flat_map};
 ghost use Rattle.sig_diff.specs.Replaying.{replayed};
 ghost use Rattle.sig_expr.specs.Functions.{image, passes};
@@ -8,7 +8,7 @@ ghost use Rattle.sig_rows.specs.Flow.{through};
 ghost use Rattle.sig_rows.specs.Joins.{Goes};
 ghost use Rattle.sig_nodes.specs.Nodes.{list_ops};
 ghost use Rattle.sig_nodes.specs.Steps.{ListGone, ListMayGo};
-ghost use Rattle.sig_walk.specs.Walking.{HasGone, list_entered};
+ghost use Rattle.sig_walk.specs.Walking.{HasGone, HasNews, list_entered};
 
 use crate::choosing::{chosen_anew, filtered_by, mapped_by, picked};
 use crate::joining::{flattened, joined};
@@ -35,6 +35,7 @@ impl ListNode {
         ensures same { P.is_same port.old port.new }
         ensures gone { HasGone (P.state port.old) (P.state port.new) walk.old walk.new }
         ensures taken { IfOk result (ListGone (P.state port.old) (P.state port.new) walk.old walk.new (list_ops self.old) (list_ops self.new)) }
+        ensures news { OnErr result (HasNews (P.state port.new) walk.old) }
     {
         match self {
             ListNode::Source(leaf) => Ok(list_entered(alloc, walk.enter(port, *leaf)?)),
@@ -53,13 +54,13 @@ impl ListNode {
             ListNode::FilterBy(op, of, bank) => {
                 let diffs = of.step(alloc, port, walk)?;
                 let mut values = Vec::new(alloc);
-                bank.step(alloc, port, walk, &mut values)?;
+                bank.step(0..op.signal_count(), alloc, port, walk, &mut values)?;
                 filtered_by(alloc, op, &diffs, values.as_slice())
             }
             ListNode::MapBy(op, of, bank) => {
                 let diffs = of.step(alloc, port, walk)?;
                 let mut values = Vec::new(alloc);
-                bank.step(alloc, port, walk, &mut values)?;
+                bank.step(0..op.signal_count(), alloc, port, walk, &mut values)?;
                 mapped_by(alloc, op, &diffs, values.as_slice())
             }
             ListNode::Concat(op, left, right) => {
@@ -70,7 +71,7 @@ impl ListNode {
             ListNode::Flatten(op, of, bank) => {
                 let diffs = of.step(alloc, port, walk)?;
                 let mut lists = Vec::new(alloc);
-                bank.step(alloc, port, walk, &mut lists)?;
+                bank.step(0..op.part_count(), alloc, port, walk, &mut lists)?;
                 flattened(alloc, op, &diffs, lists.as_slice())
             }
             ListNode::Pick(op, of, bank) => {
@@ -104,6 +105,7 @@ fn mapped(
 ) -> Result<Diffs<i64>, NoMemory>
     ensures given { IfOk result (λ given. given ≡ flat_map (map_gives (image op.old)) diffs.now) }
     ensures state { OnOk result (op.new ≡ op.old) }
+    ensures some { OnErr result (diffs.now ≢ []) }
 {
     let mut given = Diffs::new(alloc);
     follow(op, diffs, &mut given)?;
@@ -119,6 +121,7 @@ fn filtered(
     requires { Goes 65536 op.old.items diffs.now }
     ensures given { IfOk result (λ given. given ≡ through (filter_gives (passes op.old.tester)) op.old.items diffs.now) }
     ensures state { OnOk result (op.new ≡ record op.old { items = replayed op.old.items diffs.now }) }
+    ensures some { OnErr result (diffs.now ≢ []) }
 {
     let mut kept = Diffs::new(alloc);
     follow(op, diffs, &mut kept)?;
@@ -130,6 +133,7 @@ fn sorted(alloc: Global, op: &mut SortedOp<Fun>, diffs: &Diffs<i64>) -> Result<D
     requires { Goes 65536 op.old.items diffs.now }
     ensures given { IfOk result (λ given. given ≡ through (sorted_gives (image op.old.mapper)) op.old.items diffs.now) }
     ensures state { OnOk result (op.new ≡ sorted_of op.old.mapper (replayed op.old.items diffs.now)) }
+    ensures some { OnErr result (diffs.now ≢ []) }
 {
     let mut given = Diffs::new(alloc);
     follow(op, diffs, &mut given)?;

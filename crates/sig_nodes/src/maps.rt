@@ -1,4 +1,4 @@
-ghost use Rattle.std.specs.Prelude.{◌≡◌, ◌≤◌, length, IfOk, OnOk};
+ghost use Rattle.std.specs.Prelude.{◌≡◌, ◌≢◌, ◌≤◌, [], length, IfOk, OnErr, OnOk};
 ghost use Rattle.std.specs.List.{flat_map};
 ghost use Rattle.sig_diff.specs.Replaying.{MapAreLawful, MapStaysShort, map_replayed};
 ghost use Rattle.sig_expr.specs.Functions.{image};
@@ -6,7 +6,7 @@ ghost use Rattle.sig_maps.specs.Tables.{entries_gives, keys_gives, map_value_giv
 ghost use Rattle.sig_rows.specs.Flow.{of_map};
 ghost use Rattle.sig_nodes.specs.Nodes.{map_ops};
 ghost use Rattle.sig_nodes.specs.Steps.{MapGone, MapMayGo};
-ghost use Rattle.sig_walk.specs.Walking.{HasGone, map_entered};
+ghost use Rattle.sig_walk.specs.Walking.{HasGone, HasNews, map_entered};
 
 use crate::nodes::MapNode;
 use sig_diff::{Diffs, MapDiffs, NoMemory};
@@ -28,6 +28,7 @@ impl MapNode {
         ensures same { P.is_same port.old port.new }
         ensures gone { HasGone (P.state port.old) (P.state port.new) walk.old walk.new }
         ensures taken { IfOk result (MapGone (P.state port.old) (P.state port.new) walk.old walk.new (map_ops self.old)) }
+        ensures news { OnErr result (HasNews (P.state port.new) walk.old) }
         ensures tree { map_ops self.new ≡ map_ops self.old }
     {
         match self {
@@ -48,6 +49,7 @@ fn mapped(
 ) -> Result<MapDiffs<i64>, NoMemory>
     ensures given { IfOk result (λ given. given ≡ flat_map (map_value_gives (image op.old)) diffs.now) }
     ensures state { op.new ≡ op.old }
+    ensures some { OnErr result (diffs.now ≢ []) }
 {
     let mut given = MapDiffs::new(alloc);
     'diffs: for diff in diffs.as_slice() {
@@ -73,6 +75,7 @@ pub fn keys(alloc: Global, op: &mut KeysOp, diffs: &MapDiffs<i64>) -> Result<Dif
     requires short { MapStaysShort 65536 op.old diffs.now }
     ensures given { IfOk result (λ given. given ≡ of_map keys_gives op.old diffs.now) }
     ensures state { OnOk result (op.new ≡ map_replayed op.old diffs.now) }
+    ensures some { OnErr result (diffs.now ≢ []) }
 {
     let mut given = Diffs::new(alloc);
     'diffs: for diff in diffs.as_slice() {
@@ -92,6 +95,7 @@ pub fn values(
     requires short { MapStaysShort 65536 op.old diffs.now }
     ensures given { IfOk result (λ given. given ≡ of_map values_gives op.old diffs.now) }
     ensures state { OnOk result (op.new ≡ map_replayed op.old diffs.now) }
+    ensures some { OnErr result (diffs.now ≢ []) }
 {
     let mut given = Diffs::new(alloc);
     'diffs: for diff in diffs.as_slice() {
@@ -111,6 +115,7 @@ pub fn pairs(
     requires short { MapStaysShort 65536 op.old diffs.now }
     ensures given { IfOk result (λ given. given ≡ of_map entries_gives op.old diffs.now) }
     ensures state { OnOk result (op.new ≡ map_replayed op.old diffs.now) }
+    ensures some { OnErr result (diffs.now ≢ []) }
 {
     let mut given = Diffs::new(alloc);
     'diffs: for diff in diffs.as_slice() {

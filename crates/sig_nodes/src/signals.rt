@@ -1,9 +1,9 @@
-ghost use Rattle.std.specs.Prelude.{◌≡◌, option_and_then, option_map, unwrap_or, IfOk};
+ghost use Rattle.std.specs.Prelude.{◌≡◌, option_and_then, option_map, unwrap_or, IfOk, OnErr};
 ghost use Rattle.sig_expr.specs.Functions.{image};
 ghost use Rattle.sig_ops.specs.Signals.{given};
 ghost use Rattle.sig_nodes.specs.Nodes.{signal_ops};
 ghost use Rattle.sig_nodes.specs.Steps.{SignalGone, SignalMayGo};
-ghost use Rattle.sig_walk.specs.Walking.{HasGone, number_entered};
+ghost use Rattle.sig_walk.specs.Walking.{HasGone, HasNews, number_entered};
 
 use crate::choosing::switched;
 use crate::nodes::SignalNode;
@@ -27,6 +27,7 @@ impl SignalNode {
         ensures same { P.is_same port.old port.new }
         ensures gone { HasGone (P.state port.old) (P.state port.new) walk.old walk.new }
         ensures taken { IfOk result (SignalGone (P.state port.old) (P.state port.new) walk.old walk.new (signal_ops self.old) (signal_ops self.new)) }
+        ensures news { OnErr result (HasNews (P.state port.new) walk.old) }
     {
         match self {
             SignalNode::Cell(leaf) => Ok(number_entered(walk.enter(port, *leaf)?)),

@@ -1,4 +1,4 @@
-ghost use Rattle.std.specs.Prelude.{◌≡◌, ◌≤◌, IfOk, OnOk};
+ghost use Rattle.std.specs.Prelude.{◌≡◌, ◌≢◌, ◌≤◌, [], IfOk, OnErr, OnOk};
 ghost use Rattle.sig_expr.specs.Awaited.{awaits};
 ghost use Rattle.sig_expr.specs.Leaves.{leaves};
 ghost use Rattle.sig_hist.specs.Sources.{AreDistinct};
@@ -9,7 +9,7 @@ ghost use Rattle.sig_rows.specs.Flow.{flow, tags_after, with_tags};
 ghost use Rattle.sig_expr.specs.Lengths.{longest};
 ghost use Rattle.sig_nodes.specs.Nodes.{op_tags, view_ops, view_tree_of, ViewStands};
 ghost use Rattle.sig_hist.specs.Ways.{contents_at, ways};
-ghost use Rattle.sig_walk.specs.Walking.{CanWalk, HasGone, HasLeaves, HasWalked, cap_at, sources_in};
+ghost use Rattle.sig_walk.specs.Walking.{CanWalk, HasGone, HasLeaves, HasNews, HasWalked, cap_at, sources_in};
 
 use crate::maps::pairs;
 use crate::nodes::ViewNode;
@@ -40,6 +40,7 @@ impl ViewNode {
         ensures tags { OnOk result (op_tags (view_ops self.new) ≡ tags_after (op_tags (view_ops self.old)) (flow (ways (sources_in (P.state port.new) walk.new) walk.old.positions walk.new.positions) (view_tree_of (view_ops self.old)))) }
         ensures stands { OnOk result (ViewStands (contents_at (sources_in (P.state port.new) walk.new) walk.new.positions) (view_ops self.new)) }
         ensures tree { OnOk result (view_tree_of (view_ops self.new) ≡ view_tree_of (view_ops self.old)) }
+        ensures news { OnErr result (HasNews (P.state port.new) walk.old) }
     {
         match self {
             ViewNode::Signal(of) => Ok(Body::Signal(of.step(alloc, port, walk)?)),
@@ -67,6 +68,7 @@ fn tagged(
     requires short { StaysShort 65536 (values_of op.old.elements) diffs.now }
     ensures given { IfOk result (λ given. given ≡ all_given enumeration_next enumerate_gives op.old diffs.now) }
     ensures state { OnOk result (op.new ≡ after_all enumeration_next op.old diffs.now) }
+    ensures some { OnErr result (diffs.now ≢ []) }
 {
     let mut given = Diffs::new(alloc);
     'diffs: for diff in diffs.as_slice() {

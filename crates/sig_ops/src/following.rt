@@ -1,4 +1,4 @@
-ghost use Rattle.std.specs.Prelude.{◌≡◌, ◌++◌, List, OnOk};
+ghost use Rattle.std.specs.Prelude.{◌≡◌, ◌≢◌, [], ◌++◌, List, OnErr, OnOk};
 ghost use Rattle.sig_diff.specs.Replaying.{AreLawful};
 ghost use Rattle.sig_ops.specs.Following.{after_all, all_given, CanFollow, Follows};
 
@@ -14,6 +14,7 @@ pub fn follow<O: VecOp>(
     requires { CanFollow O.next O.can_step op.old diffs.now }
     ensures given { OnOk result (given.new ≡ given.old ++ all_given O.next O.gives op.old diffs.now) }
     ensures state { OnOk result (op.new ≡ after_all O.next op.old diffs.now) }
+    ensures some { OnErr result (diffs.now ≢ []) }
     ensures law { (xs : List O.In) → O.stands_for op.old xs → AreLawful xs diffs.now
         → OnOk result (Follows O.stands_for O.view op.old xs diffs.now op.new (all_given O.next O.gives op.old diffs.now)) }
 {

@@ -1,4 +1,4 @@
-ghost use Rattle.std.specs.Prelude.{◌≡◌, ◌≤◌, ℤ, List, [], pos, length, All, FitsSigned, IfOk, OnOk};
+ghost use Rattle.std.specs.Prelude.{◌≡◌, ◌≢◌, ◌≤◌, ℤ, List, [], pos, length, All, FitsSigned, IfOk, OnErr, OnOk};
 ghost use Rattle.std.specs.Int.{w64};
 ghost use Rattle.sig_diff.specs.Differences.{IsLawful, applied};
 ghost use Rattle.sig_diff.specs.Numbers.{clamped, total};
@@ -129,6 +129,7 @@ impl SumOp {
         requires short { StaysShort 65536 self.old diffs.now }
         ensures value { IfOk result (λ value. value ≡ given (clamped (total self.old)) (clamped (total (replayed self.old diffs.now)))) }
         ensures state { OnOk result (self.new ≡ replayed self.old diffs.now) }
+        ensures some { OnErr result (diffs.now ≢ []) }
     {
         let last = clamped(self.exact);
         'diffs: for diff in diffs.as_slice() {

@@ -61,7 +61,7 @@ module _ {L : Type 0} (way : L → Way) (still : (leaf : L) → (way leaf).from 
       let same : (way leaf).from + 0 ≡ (way leaf).to = omega (arith, still leaf) in
       rw (← same) (drop-take (way leaf).from 0 (way leaf).source.history)
 
-  still_map : (m : MapTree L) → map_flow way m ≡ []
+  pub still_map : (m : MapTree L) → map_flow way m ≡ []
   still_map (map_source leaf) = rw (nothing_passed leaf) (no_map _ _)
   still_map (mapped_values f m) = rw (still_map m) refl
 
@@ -79,7 +79,7 @@ module _ {L : Type 0} (way : L → Way) (still : (leaf : L) → (way leaf).from 
     still_list (keys_in m) = rw (still_map m) refl
     still_list (values_in m) = rw (still_map m) refl
 
-    still_value : (e : SigTree L) → value_flow way e ≡ None
+    pub still_value : (e : SigTree L) → value_flow way e ≡ None
     still_value (cell leaf) = rw (nothing_passed leaf) (no_number _ _)
     still_value (mapped_signal f e) = rw (still_value e) refl
     still_value (deduped e) = rw (still_value e) refl

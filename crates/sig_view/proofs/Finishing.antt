@@ -9,9 +9,10 @@ use Rattle.sig_hist.specs.Sources.{is_among}
 use Rattle.sig_hist.specs.declared.ports.Met.{Met}
 use Rattle.sig_walk.proofs.Leaving.{polled_again, polled_by_looks, polled_not, polled_of}
 use Rattle.sig_walk.proofs.Listening.{not_closed, same_sources}
+use Rattle.sig_walk.proofs.Newer.{news_same}
 use Rattle.sig_view.proofs.Stepping.{KeepsPort, before_is, moved_on, next_tags, ready_again, sound_row, tags_stay, underway}
 use Rattle.sig_view.specs.GoingOn.{HasGoneOn, HasLost, HasStepped, IsBehind}
-use Rattle.sig_walk.specs.Waiting.{HasPolled, CanWait, HasListened, HasNews, HasRested, IsLast, IsLastOpen, is_open_leaf, is_open_mark}
+use Rattle.sig_walk.specs.Waiting.{HasPolled, CanWait, HasListened, HasHeard, HasRested, IsLast, IsLastOpen, is_open_leaf, is_open_mark}
 use Rattle.sig_view.specs.Polling.{HasStayed, IsAtEnd, IsAtRest, IsLaterRow, IsNext, IsPoll, IsSameTask}
 use Rattle.sig_rows.specs.SoundRows.{IsNextRow, IsShownBy, Seen, is_awaited}
 use Rattle.sig_hist.specs.Ways.{contents_at}
@@ -90,7 +91,7 @@ module _ (s t u : PortState) (old mid new : ViewTask) (follows : is_following ol
         same = same_task old mid new paused.same lost.same;
         polled = polled_on (polled_by_looks t u mid.walk lost.looked);
         next = record { refused = sym was.no_failure; failed = rw was.no_failure lost.failed; ended = lost.goes_on; row = rw was.rows lost.row };
-        answer_is = tt;
+        answer_is = λ row. news_same paused.same.first paused.stays lost.news;
       }
 
   module _ (body : Body) (stepped : HasStepped t u mid new body) where
@@ -237,7 +238,7 @@ module _ (s t : PortState) (old mid : ViewTask) (follows : is_following old ≡ 
   polled_for u rests polled = polled_again s t u old.walk rests (polled_by_looks s t old.walk stepped.looked) (polled_of t u mid.walk old.walk rests (sym stepped.same.first) (sym (ap length stays)) polled)
 
   -- the poll looks again
-  pub paused : (u : PortState) → HasNews t u mid.walk → HasPaused s u old mid
+  pub paused : (u : PortState) → HasHeard t u mid.walk → HasPaused s u old mid
   paused u news =
       let listened = news.listened in
       let sources : sources_of u mid ≡ sources_of t mid = same_leaves t u mid false listened in
@@ -252,7 +253,7 @@ module _ (s t : PortState) (old mid : ViewTask) (follows : is_following old ≡ 
       }
 
   -- what the look has shown is there for the next walk
-  pub behind : (u : PortState) → HasNews t u mid.walk → IsBehind u mid
+  pub behind : (u : PortState) → HasHeard t u mid.walk → IsBehind u mid
   behind u news = record { leaf = news.leaf; awaited = rw (same_leaves t u mid false news.listened) (opens_among news.leaf news.opens); more = rw news.listened.polled.source news.more }
 
   fresh_there : (leaf : ℕ) → IsAmong leaf → IsFresh s t mid.walk leaf

@@ -13,16 +13,17 @@ use Rattle.sig_rows.proofs.Showing.{next_reaches, next_row}
 use Rattle.sig_rows.proofs.Still.{still_list}
 use Rattle.sig_rows.proofs.Numbering.{has_leaves as all_leaves, leaves_differ, view_short, within_caps}
 use Rattle.sig_hist.specs.Changes.{IsInOrder}
+use Rattle.sig_walk.proofs.Newer.{risen_news}
 use Rattle.sig_walk.proofs.Staying.{same_contents, seen_in_order, source_of_leaf}
 use Rattle.sig_hist.specs.Ways.{Way, GoOn, contents_at, leaf_source, ways}
 use Rattle.sig_rows.specs.Flow.{flow, tags_after, with_tags}
-use Rattle.sig_view.specs.GoingOn.{HasLost, HasStepped}
+use Rattle.sig_view.specs.GoingOn.{HasLost, HasStepped, failed_now}
 use Rattle.sig_expr.specs.Lengths.{longest}
 use Rattle.sig_nodes.specs.Nodes.{ViewStands, op_tags, view_tree_of}
 use Rattle.sig_rows.specs.SoundRows.{IsNextRow, IsShownBy, Seen, seen_after, tags_of}
 use Rattle.sig_view.specs.Polling.{IsSameTask}
 use Rattle.sig_view.specs.Tasks.{CanPoll, Holds, IsReady, IsTask, contents_of, ended, failed, following, is_following, ops_of, positions_of, rows_given, sources_of, tags_at, view_of}
-use Rattle.sig_walk.specs.Walking.{CanWalk, HasGone, HasLeaves, HasLooked, HasWalked, Progress, cap_at, set_out, sources_in}
+use Rattle.sig_walk.specs.Walking.{CanWalk, HasGone, HasLeaves, HasLooked, HasNews, HasWalked, Progress, cap_at, set_out, sources_in}
 use Rattle.sig_rows.specs.declared.rows.Body.{Body}
 use Rattle.sig_view.specs.declared.task.Stage.{Stage}
 use Rattle.sig_view.specs.declared.task.Stage.TheVariants.{Fetching, Following, Ended, Failed}
@@ -129,14 +130,15 @@ module _ (s t : PortState) (old : ViewTask) (walk : Progress) (stage : Stage) (f
     tags = rw old_tree at tags;
   }
 
-  pub lost : HasLost s t old (moved_on old walk (Failed true))
-  lost = record {
+  pub lost : HasNews t old.walk → HasLost s t old (moved_on old walk (Failed true))
+  lost news = record {
     looked = gone.looked;
     ready = ready_again s t old (moved_on old walk (Failed true)) ready (keeps_looked s t gone.looked) (record { view = refl; caps = refl; first = gone.first }) gone.leaves gone.can tt;
     same = record { view = refl; caps = refl; first = gone.first };
     failed = refl;
     row = refl;
     goes_on = refl;
+    news = news;
   }
 
 -- ---- rows
@@ -184,6 +186,23 @@ module _ (s t : PortState) (old new : ViewTask) (body : Body) (ready : IsReady s
     pub next_tags : tags_of (seen_after seen body) ≡ tags_at new
     next_tags = rw body_is ((next_reaches (view_of old) (sources_of t new) in_order (positions_of old) (positions_of new) stepped.walked.goes_on seen showed).follow
         ∙ ap (λ (tags : Option Enumeration). tags_after tags (flow (ways (sources_of t new) (positions_of old) (positions_of new)) (view_of old))) same_tags ∙ sym stepped.tags)
+
+  -- memory was wanting for the row
+  pub lost_after : (after : ViewTask) → after ≡ failed_now new → new.walk.moved ≡ true → HasLost s t old after
+  lost_after after is moved =
+      let leaves : length (positions_of new) ≡ length (positions_of old) = go_on_length (positions_of old) (positions_of new) stepped.walked.goes_on in
+      let gone : HasGone s t old.walk new.walk = record { looked = stepped.looked; first = stepped.same.first; leaves = leaves; can = stepped.ready.can } in
+      let news : HasNews t old.walk = risen_news gone stepped.walked.goes_on (stepped.walked.moves moved refl) in
+      let keeps : KeepsPort t t = record { is_own = refl; source = refl; task = refl; plan = refl } in
+      rw is (record {
+        looked = stepped.looked;
+        ready = ready_again t t new (failed_now new) stepped.ready keeps (record { view = refl; caps = refl; first = refl }) refl stepped.ready.can tt;
+        same = record { view = stepped.same.view; caps = stepped.same.caps; first = stepped.same.first };
+        failed = refl;
+        row = refl;
+        goes_on = refl;
+        news = news;
+      })
 
   -- where no leaf has gone on the tags stay
   pub tags_stay : new.walk.moved ≡ false → tags_at new ≡ tags_at old

@@ -7,7 +7,7 @@ use Rattle.sig_view.specs.Polling.{IsSameTask}
 use Rattle.sig_rows.specs.SoundRows.{is_awaited}
 use Rattle.sig_hist.specs.Ways.{ways}
 use Rattle.sig_view.specs.Tasks.{IsReady, contents_of, has_row, is_ended, is_failed, is_following, positions_of, sources_of, tags_at, view_of}
-use Rattle.sig_walk.specs.Walking.{HasLooked, HasWalked, set_out}
+use Rattle.sig_walk.specs.Walking.{HasLooked, HasNews, HasWalked, set_out}
 use Rattle.sig_rows.specs.declared.rows.Body.{Body}
 use Rattle.sig_view.specs.declared.task.Going.{Going}
 use Rattle.sig_view.specs.declared.task.Going.TheVariants.{Answered, Nowhere}
@@ -28,7 +28,7 @@ pub record HasStepped (s t : PortState) (old new : ViewTask) (body : Body) : Typ
   pub flow_is : body ≡ with_tags (tags_at old) (flow (ways (sources_of t new) (positions_of old) (positions_of new)) (view_of old))
   pub tags : tags_at new ≡ tags_after (tags_at old) (flow (ways (sources_of t new) (positions_of old) (positions_of new)) (view_of old))
 
--- memory was wanting
+-- memory was wanting, and a leaf had something to go to
 pub record HasLost (s t : PortState) (old new : ViewTask) : Type 0 where
   pub looked : HasLooked s t
   pub ready : IsReady t new
@@ -36,12 +36,13 @@ pub record HasLost (s t : PortState) (old new : ViewTask) : Type 0 where
   pub failed : is_failed new ≡ true
   pub row : has_row new ≡ true
   pub goes_on : is_ended new ≡ false
+  pub news : HasNews t old.walk
 
 -- what a walk answers by itself: a leaf has gone on, memory was wanting for the row, a held word was found, or nothing has happened
 abbrev pub IsAnswered : {T : Type 0} → ViewTask → ViewTask → Body → T → Going T → Type 0
 IsAnswered old new body told (Answered (Batch row token held)) =
     (new ≡ old) × (old.walk.moved ≡ true) × (row ≡ record { at = positions_of old; body = body }) × (token ≡ told) × (held ≡ old.walk.held)
-IsAnswered old new body told (Answered NoMemory) = new ≡ failed_now old
+IsAnswered old new body told (Answered NoMemory) = (new ≡ failed_now old) × (old.walk.moved ≡ true)
 IsAnswered old new body told (Answered (Again word token)) = (new ≡ old) × (old.walk.moved ≡ false) × (old.walk.held ≡ Some word) × (token ≡ told)
 IsAnswered old new body told (Nowhere token) = (new ≡ old) × (old.walk.moved ≡ false) × (old.walk.held ≡ None) × (token ≡ told)
 IsAnswered old new body told _ = ⊥

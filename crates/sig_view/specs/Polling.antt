@@ -5,7 +5,7 @@ use Rattle.sig_hist.specs.Ports.{PortState, raised}
 use Rattle.sig_hist.specs.declared.ports.Condition.TheVariants.{Waiting}
 use Rattle.sig_rows.specs.SoundRows.{IsFirstRow, IsNextRow, IsShownBy, Seen, is_awaited, nothing_seen, seen_after, tags_of}
 use Rattle.sig_view.specs.Tasks.{IsReady, contents_of, has_row, is_ended, is_failed, is_following, is_lacking, positions_of, sources_of, tags_at, view_of}
-use Rattle.sig_walk.specs.Walking.{IsFresh, first_word, is_seen_closed, met_since}
+use Rattle.sig_walk.specs.Walking.{HasNews, IsFresh, first_word, is_seen_closed, met_since}
 use Rattle.sig_rows.specs.declared.rows.Row.{Row}
 use Rattle.sig_view.specs.declared.task.Polled.{Polled}
 use Rattle.sig_view.specs.declared.task.Polled.TheVariants as polled
@@ -93,7 +93,7 @@ module _ (s t : PortState) (old new : ViewTask) where
     IsAnswer polled.Pending = IsPending
     IsAnswer (polled.Again word token) = IsAgain word token
     IsAnswer polled.Ended = IsEnd
-    IsAnswer polled.NoMemory = Unit {0}
+    IsAnswer polled.NoMemory = has_row old ≡ true → HasNews t old.walk
     IsAnswer polled.Failed = (t ≡ s) × (new ≡ old)
 
 -- ---- which answers come when

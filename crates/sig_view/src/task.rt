@@ -15,7 +15,7 @@ ghost use Rattle.sig_view.specs.Polling.{IsPoll, IsSameTask};
 ghost use Rattle.sig_hist.specs.Ways.{contents_at, ways};
 ghost use Rattle.sig_nodes.specs.Starting.{IsViewStarted, leaf_length};
 ghost use Rattle.sig_view.specs.Tasks.{IsNew, IsReady, begun, contents_got, first_of, following, has_row, is_begun, is_ended, is_following, ops_of, positions_of, view_of};
-ghost use Rattle.sig_walk.specs.Walking.{CanWalk, HasGone, HasLeaves, HasWalked, cap_at, set_out, sources_in};
+ghost use Rattle.sig_walk.specs.Walking.{CanWalk, HasGone, HasLeaves, HasNews, HasWalked, cap_at, set_out, sources_in};
 ghost use Rattle.sig_view.specs.declared.task.ViewTask.{ViewTask};
 
 use sig_diff::{Content, NoMemory};
@@ -426,6 +426,7 @@ fn walk_on<P: Port>(
     ensures stands { OnOk result (ViewStands (contents_at (sources_in (P.state port.new) walk.new) walk.new.positions) (ops_of stage.new)) }
     ensures tree { OnOk result (view_tree_of (ops_of stage.new) ≡ view_tree_of (ops_of stage.old)) }
     ensures follows { OnOk result (following stage.new ≡ true) }
+    ensures news { OnErr result (HasNews (P.state port.new) walk.old) }
 {
     walk.set_out();
     match stage {

@@ -8,7 +8,7 @@ use Rattle.sig_hist.specs.declared.ports.Condition.{Condition}
 use Rattle.sig_hist.specs.declared.ports.Condition.TheVariants.{Armed, Checked, Waiting}
 use Rattle.sig_hist.specs.declared.ports.Version.{Version}
 use Rattle.sig_walk.proofs.Leaving.{by_place, put_here, polled_not, polled_armed, polled_looked, polled_rested, polled_again}
-use Rattle.sig_walk.specs.Waiting.{CanWait, HasEnded, HasListened, HasNews, HasRung, HasWaited, IsLast, IsWatched, is_open_leaf, is_open_mark}
+use Rattle.sig_walk.specs.Waiting.{CanWait, HasEnded, HasListened, HasHeard, HasRung, HasWaited, IsLast, IsWatched, is_open_leaf, is_open_mark}
 use Rattle.sig_walk.specs.Walking.{CanWalk, IsCaughtUp, Progress, is_seen_closed, mark_of, seen_source, seen_sources}
 use Rattle.sig_walk.specs.declared.waiting.Waited.{Waited}
 use Rattle.sig_walk.specs.declared.waiting.Waited.TheVariants.{Rests, News}
@@ -150,7 +150,7 @@ module _ (s : PortState) (walk : Progress) (can : CanWait s walk) where
         }
 
     -- a look shows that a leaf's source goes on
-    news : (u : PortState) → leaf < length walk.positions → is_open_leaf walk leaf ≡ true → HasRung t u walk leaf false → HasNews s u walk
+    news : (u : PortState) → leaf < length walk.positions → is_open_leaf walk leaf ≡ true → HasRung t u walk leaf false → HasHeard s u walk
     news u within opens rang =
         let position : ℕ = slice_index walk.positions leaf in
         let source : ℕ = t.source at in
@@ -184,7 +184,7 @@ module _ (s : PortState) (walk : Progress) (can : CanWait s walk) where
     })
     watched_still u opens false within is stays watched sound = cc
 
-    pub watched_news : (u : PortState) (opens stays : Bool) → leaf < length walk.positions → is_open_leaf walk leaf ≡ opens → stays ≡ false → IsWatched t u walk leaf opens stays → HasNews s u walk
+    pub watched_news : (u : PortState) (opens stays : Bool) → leaf < length walk.positions → is_open_leaf walk leaf ≡ opens → stays ≡ false → IsWatched t u walk leaf opens stays → HasHeard s u walk
     watched_news u true false within opens stays rang = news u within opens rang
     watched_news u false false within shut stays watched = cc
     watched_news u opens true within is stays watched = cc

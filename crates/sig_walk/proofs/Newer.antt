@@ -11,6 +11,10 @@ pub news_later : {s t : PortState} {old : Progress} → HasLooked s t → HasNew
 news_later {s} {t} {old} looked news =
     record { leaf = news.leaf; within = news.within; more = rw looked.source (le_trans news.more (looked.seen (s.source (old.first + news.leaf))).known) }
 
+-- it is so for every walk that stands there
+pub news_same : {t : PortState} {old other : Progress} → other.first ≡ old.first → other.positions ≡ old.positions → HasNews t other → HasNews t old
+news_same first positions news = record { leaf = news.leaf; within = rw positions at news.within; more = rw (first, positions) at news.more }
+
 -- what is news for a later part of a walk is news for all of it
 pub news_before : {s t u : PortState} {old mid : Progress} → HasGone s t old mid → GoOn old.positions mid.positions → HasNews u mid → HasNews u old
 news_before {u = u} {old = old} {mid = mid} gone goes news =

@@ -92,7 +92,7 @@ pub record HasRested (s t : PortState) (walk : Progress) : Type 0 where
   pub armed_each : (leaf : ℕ) → is_open_leaf walk leaf ≡ true → raised (s.arms (walk.first + leaf)) ≤ t.arms (walk.first + leaf)
 
 -- a look showed that an open leaf's source goes on
-pub record HasNews (s t : PortState) (walk : Progress) : Type 0 where
+pub record HasHeard (s t : PortState) (walk : Progress) : Type 0 where
   pub listened : HasListened s t walk false
   pub leaf : ℕ
   pub opens : is_open_leaf walk leaf ≡ true
@@ -100,4 +100,4 @@ pub record HasNews (s t : PortState) (walk : Progress) : Type 0 where
 
 abbrev pub HasWaited : {T : Type 0} → PortState → PortState → Progress → T → Waited T → Type 0
 HasWaited s t walk told Rests = HasRested s t walk
-HasWaited s t walk told (News token) = HasNews s t walk × (token ≡ told)
+HasWaited s t walk told (News token) = HasHeard s t walk × (token ≡ told)

@@ -1,11 +1,13 @@
 use Rattle.std.proofs.Common.{◌≡◌, ◌∙◌, ◌-◌, suc, rules, refl, sym, arith, ◌+◌}
 use Rattle.std.proofs.lemmas.Result.{IfOk-weaker, on_ok_weaker}
-use Rattle.sig_nodes.proofs.ByBank.{as_let_in, as_raised, by_bank, by_each, by_few, by_goes, by_lawful, by_list, let_in_gone, raised_gone}
-use Rattle.sig_nodes.proofs.ByBlocks.{all_lists_gone, blocks_bank, blocks_gone, blocks_may_flatten, no_lists_gone, outer_may_go, rest_lists_may_go}
-use Rattle.sig_nodes.proofs.ByHalves.{halves_gone, halves_may_join, left_may_go, right_may_go}
+use Rattle.sig_nodes.proofs.ByBank.{as_let_in, as_raised, by_bank, by_count, by_each, by_few, by_goes, by_lawful, by_list, by_news, let_in_gone, raised_gone}
+use Rattle.sig_nodes.proofs.ByBlocks.{all_lists_gone, blocks_bank, blocks_count, blocks_gone, blocks_may_flatten, blocks_news, no_lists_gone, outer_may_go, rest_lists_may_go}
+use Rattle.sig_nodes.proofs.ByHalves.{halves_gone, halves_may_join, halves_news, left_may_go, right_may_go}
 use Rattle.sig_nodes.proofs.ListArms.{filter_goes, filter_gone, length_gone, length_lawful, length_short, map_gone, sorted_goes, sorted_gone, total_gone, total_lawful, total_short}
 use Rattle.sig_nodes.proofs.MapArms.{key_gone, keys_go, keys_gone, values_go, values_gone}
-use Rattle.sig_nodes.proofs.Parts.{gone_twice}
+use Rattle.sig_nodes.proofs.News.{list_at_news, list_news, map_news, rest_news, signal_news}
+use Rattle.sig_nodes.proofs.OverGiven.{one_more_place}
+use Rattle.sig_nodes.proofs.Parts.{gone_twice, list_gone, signal_gone}
 use Rattle.sig_nodes.proofs.PickSteps.{pick_bank, pick_gone, pick_gone_empty, pick_lawful, pick_may_go}
 use Rattle.sig_nodes.proofs.SignalArms.{all_gone, dedupe_gone, first_gone, first_list_gone, first_list_may_go, first_may_go, image_gone, no_list_gone, none_at_gone, none_gone, other_gone, other_list_gone, other_lists_may_go, others_may_go, rest_may_go}
 use Rattle.sig_nodes.proofs.SwitchSteps.{switch_bank, switch_gone, switch_gone_empty, switch_may_go}
@@ -53,7 +55,7 @@ ListNode::step-step-requires-in-FilterBy g t c κs within =
 pub ListNode::step-step-requires-in-FilterBy-2 : goal.ListNode::step-step-requires-in-FilterBy-2
 ListNode::step-step-requires-in-FilterBy-2 g t c κs within =
     let ops = filter_by_ops c.args.self.now c.deref_mut-in-FilterBy.result.now c.deref_mut-in-FilterBy-2.result.now c.in-FilterBy.op c.in-FilterBy.of c.in-FilterBy.bank c.in-FilterBy.is c.deref_mut-in-FilterBy.ensures.value c.deref_mut-in-FilterBy-2.ensures.value in
-    (search (rules, ListNode.the_lemmas, SignalBank.the_lemmas, c.decreases, c.in-FilterBy.is, c.deref_mut-in-FilterBy-2.ensures.value), (within.0, (within.1, by_bank (as_let_in (rw ops at c.requires.may_go)) c.in_ok-diffs-in-FilterBy.ensures.taken)))
+    (search (rules, ListNode.the_lemmas, SignalBank.the_lemmas, c.decreases, c.in-FilterBy.is, c.deref_mut-in-FilterBy-2.ensures.value), (within.0, (within.1, (by_bank (as_let_in (rw ops at c.requires.may_go)) c.in_ok-diffs-in-FilterBy.ensures.taken, sym (c.signal_count.ensures ∙ by_count (as_let_in (rw ops at c.requires.may_go)) c.in_ok-diffs-in-FilterBy.ensures.taken)))))
 
 pub ListNode::step-returns-in_err-step-in-FilterBy-clause-gone : goal.ListNode::step-returns-in_err-step-in-FilterBy-clause-gone
 ListNode::step-returns-in_err-step-in-FilterBy-clause-gone g t c =
@@ -91,7 +93,7 @@ ListNode::step-step-requires-in-MapBy g t c κs within =
 pub ListNode::step-step-requires-in-MapBy-2 : goal.ListNode::step-step-requires-in-MapBy-2
 ListNode::step-step-requires-in-MapBy-2 g t c κs within =
     let ops = map_by_ops c.args.self.now c.deref_mut-in-MapBy.result.now c.deref_mut-in-MapBy-2.result.now c.in-MapBy.op c.in-MapBy.of c.in-MapBy.bank c.in-MapBy.is c.deref_mut-in-MapBy.ensures.value c.deref_mut-in-MapBy-2.ensures.value in
-    (search (rules, ListNode.the_lemmas, SignalBank.the_lemmas, c.decreases, c.in-MapBy.is, c.deref_mut-in-MapBy-2.ensures.value), (within.0, (within.1, by_bank (as_raised (rw ops at c.requires.may_go)) c.in_ok-diffs-in-MapBy.ensures.taken)))
+    (search (rules, ListNode.the_lemmas, SignalBank.the_lemmas, c.decreases, c.in-MapBy.is, c.deref_mut-in-MapBy-2.ensures.value), (within.0, (within.1, (by_bank (as_raised (rw ops at c.requires.may_go)) c.in_ok-diffs-in-MapBy.ensures.taken, sym (c.signal_count-in-MapBy.ensures ∙ by_count (as_raised (rw ops at c.requires.may_go)) c.in_ok-diffs-in-MapBy.ensures.taken)))))
 
 pub ListNode::step-returns-in_err-step-in-MapBy-clause-gone : goal.ListNode::step-returns-in_err-step-in-MapBy-clause-gone
 ListNode::step-returns-in_err-step-in-MapBy-clause-gone g t c =
@@ -157,7 +159,7 @@ ListNode::step-step-requires-in-Flatten g t c κs within =
 pub ListNode::step-step-requires-in-Flatten-2 : goal.ListNode::step-step-requires-in-Flatten-2
 ListNode::step-step-requires-in-Flatten-2 g t c κs within =
     let ops = flatten_ops c.args.self.now c.deref_mut-in-Flatten.result.now c.deref_mut-in-Flatten-2.result.now c.in-Flatten.op c.in-Flatten.of c.in-Flatten.bank c.in-Flatten.is c.deref_mut-in-Flatten.ensures.value c.deref_mut-in-Flatten-2.ensures.value in
-    (search (rules, ListNode.the_lemmas, ListBank.the_lemmas, c.decreases, c.in-Flatten.is, c.deref_mut-in-Flatten-2.ensures.value), (within.0, (within.1, blocks_bank (rw ops at c.requires.may_go) c.in_ok-diffs-in-Flatten.ensures.taken)))
+    (search (rules, ListNode.the_lemmas, ListBank.the_lemmas, c.decreases, c.in-Flatten.is, c.deref_mut-in-Flatten-2.ensures.value), (within.0, (within.1, (blocks_bank (rw ops at c.requires.may_go) c.in_ok-diffs-in-Flatten.ensures.taken, sym (c.part_count.ensures ∙ blocks_count (rw ops at c.requires.may_go) c.in_ok-diffs-in-Flatten.ensures.taken)))))
 
 pub ListNode::step-returns-in_err-step-in-Flatten-clause-gone : goal.ListNode::step-returns-in_err-step-in-Flatten-clause-gone
 ListNode::step-returns-in_err-step-in-Flatten-clause-gone g t c =
@@ -336,21 +338,21 @@ SignalBank::step-step-requires g t c κs within =
 pub SignalBank::step-step-requires-in-Signal : goal.SignalBank::step-step-requires-in-Signal
 SignalBank::step-step-requires-in-Signal g t c κs within =
     let ops = bank_ops c.args.self.now c.deref_mut.result.now c.deref_mut-in-Signal.result.now c.in-Signal.signal c.in-Signal.others c.in-Signal.is c.deref_mut.ensures.value c.deref_mut-in-Signal.ensures.value in
-    (search (rules, SignalNode.the_lemmas, SignalBank.the_lemmas, c.decreases, c.in-Signal.is, c.deref_mut-in-Signal.ensures.value), (within.0, (within.1, rest_may_go (rw ops at c.requires.may_go) c.in_ok-value-in-Signal.ensures.taken)))
+    (search (rules, SignalNode.the_lemmas, SignalBank.the_lemmas, c.decreases, c.in-Signal.is, c.deref_mut-in-Signal.ensures.value), (within.0, (within.1, (rest_may_go (rw ops at c.requires.may_go) c.in_ok-value-in-Signal.ensures.taken, one_more_place c.args.places.start _ c.args.places.end (rw ops at c.requires.places)))))
 
 pub SignalBank::step-returns-in-Empty-clause-taken : goal.SignalBank::step-returns-in-Empty-clause-taken
 SignalBank::step-returns-in-Empty-clause-taken g t c =
     let empty : signals_ops c.args.self.now ≡ no_signal = rw c.in-Empty.is (search (rules, SignalBank.the_lemmas)) in
-    rw empty (none_gone (g.P.Port.state c.args.port.now) c.args.walk.now c.args.values.now.items (still_gone (g.P.Port.state c.args.port.now) c.args.walk.now c.requires.may_go.can))
+    rw empty (none_gone (g.P.Port.state c.args.port.now) c.args.walk.now c.args.places.start c.args.values.now.items (still_gone (g.P.Port.state c.args.port.now) c.args.walk.now c.requires.may_go.can))
 
-pub SignalBank::step-returns-in_ok-push-in-Signal-clause-gone : goal.SignalBank::step-returns-in_ok-push-in-Signal-clause-gone
-SignalBank::step-returns-in_ok-push-in-Signal-clause-gone g t c =
+pub SignalBank::step-returns-in_ok-add_value-in-Signal-clause-gone : goal.SignalBank::step-returns-in_ok-add_value-in-Signal-clause-gone
+SignalBank::step-returns-in_ok-add_value-in-Signal-clause-gone g t c =
     gone_twice c.step.ensures.gone c.step-in-Signal.ensures.gone
 
-pub SignalBank::step-returns-in_ok-push-in-Signal-clause-taken : goal.SignalBank::step-returns-in_ok-push-in-Signal-clause-taken
-SignalBank::step-returns-in_ok-push-in-Signal-clause-taken g t c =
+pub SignalBank::step-returns-in_ok-add_value-in-Signal-clause-taken : goal.SignalBank::step-returns-in_ok-add_value-in-Signal-clause-taken
+SignalBank::step-returns-in_ok-add_value-in-Signal-clause-taken g t c =
     let ops = bank_ops c.args.self.now c.deref_mut.result.now c.deref_mut-in-Signal.result.now c.in-Signal.signal c.in-Signal.others c.in-Signal.is c.deref_mut.ensures.value c.deref_mut-in-Signal.ensures.value in
-    on_ok_weaker c.step-in-Signal.result (λ taken. rw (ops, ops_of_signals) (all_gone (rw ops at c.requires.may_go) c.in_ok-value-in-Signal.ensures.taken c.in_ok-push-in-Signal.ensures.items taken)) c.step-in-Signal.ensures.taken
+    on_ok_weaker c.step-in-Signal.result (λ taken. rw (ops, ops_of_signals) (all_gone (rw ops at c.requires.may_go) c.in_ok-value-in-Signal.ensures.taken c.in_ok-add_value-in-Signal.ensures.given taken)) c.step-in-Signal.ensures.taken
 
 pub SignalBank::step_at-step-requires : goal.SignalBank::step_at-step-requires
 SignalBank::step_at-step-requires g t c κs within =
@@ -387,21 +389,21 @@ ListBank::step-step-requires g t c κs within =
 pub ListBank::step-step-requires-in-List : goal.ListBank::step-step-requires-in-List
 ListBank::step-step-requires-in-List g t c κs within =
     let ops = list_bank_ops c.args.self.now c.deref_mut.result.now c.deref_mut-in-List.result.now c.in-List.list c.in-List.others c.in-List.is c.deref_mut.ensures.value c.deref_mut-in-List.ensures.value in
-    (search (rules, ListNode.the_lemmas, ListBank.the_lemmas, c.decreases, c.in-List.is, c.deref_mut-in-List.ensures.value), (within.0, (within.1, rest_lists_may_go (rw ops at c.requires.may_go) c.in_ok-diffs-in-List.ensures.taken)))
+    (search (rules, ListNode.the_lemmas, ListBank.the_lemmas, c.decreases, c.in-List.is, c.deref_mut-in-List.ensures.value), (within.0, (within.1, (rest_lists_may_go (rw ops at c.requires.may_go) c.in_ok-diffs-in-List.ensures.taken, one_more_place c.args.places.start _ c.args.places.end (rw ops at c.requires.places)))))
 
 pub ListBank::step-returns-in-Empty-clause-taken : goal.ListBank::step-returns-in-Empty-clause-taken
 ListBank::step-returns-in-Empty-clause-taken g t c =
     let empty : lists_ops c.args.self.now ≡ no_list = rw c.in-Empty.is (search (rules, ListBank.the_lemmas)) in
-    rw empty (no_lists_gone (g.P.Port.state c.args.port.now) c.args.walk.now c.args.lists.now.items (still_gone (g.P.Port.state c.args.port.now) c.args.walk.now c.requires.may_go.can))
+    rw empty (no_lists_gone (g.P.Port.state c.args.port.now) c.args.walk.now c.args.places.start c.args.lists.now.items (still_gone (g.P.Port.state c.args.port.now) c.args.walk.now c.requires.may_go.can))
 
-pub ListBank::step-returns-in_ok-push-in-List-clause-gone : goal.ListBank::step-returns-in_ok-push-in-List-clause-gone
-ListBank::step-returns-in_ok-push-in-List-clause-gone g t c =
+pub ListBank::step-returns-in_ok-add_list-in-List-clause-gone : goal.ListBank::step-returns-in_ok-add_list-in-List-clause-gone
+ListBank::step-returns-in_ok-add_list-in-List-clause-gone g t c =
     gone_twice c.step.ensures.gone c.step-in-List.ensures.gone
 
-pub ListBank::step-returns-in_ok-push-in-List-clause-taken : goal.ListBank::step-returns-in_ok-push-in-List-clause-taken
-ListBank::step-returns-in_ok-push-in-List-clause-taken g t c =
+pub ListBank::step-returns-in_ok-add_list-in-List-clause-taken : goal.ListBank::step-returns-in_ok-add_list-in-List-clause-taken
+ListBank::step-returns-in_ok-add_list-in-List-clause-taken g t c =
     let ops = list_bank_ops c.args.self.now c.deref_mut.result.now c.deref_mut-in-List.result.now c.in-List.list c.in-List.others c.in-List.is c.deref_mut.ensures.value c.deref_mut-in-List.ensures.value in
-    on_ok_weaker c.step-in-List.result (λ taken. rw (ops, ops_of_lists) (all_lists_gone (rw ops at c.requires.may_go) c.in_ok-diffs-in-List.ensures.taken c.in_ok-push-in-List.ensures.items taken)) c.step-in-List.ensures.taken
+    on_ok_weaker c.step-in-List.result (λ taken. rw (ops, ops_of_lists) (all_lists_gone (rw ops at c.requires.may_go) c.in_ok-diffs-in-List.ensures.taken c.in_ok-add_list-in-List.ensures.given taken)) c.step-in-List.ensures.taken
 
 pub ListBank::step_at-step-requires : goal.ListBank::step_at-step-requires
 ListBank::step_at-step-requires g t c κs within =
@@ -429,3 +431,95 @@ ListBank::step_at-returns-else-place-eq0-clause-taken g t c =
     let ops = list_bank_ops c.args.self.now c.in-List.list.value c.deref_mut-else-place-eq0.result.now c.in-List.list c.in-List.others c.in-List.is refl c.deref_mut-else-place-eq0.ensures.value in
     let later : c.args.place ≡ suc (c.args.place - 1) = omega (arith, c.if-place-eq0.false) in
     IfOk-weaker c.step_at.result _ _ (λ diffs taken. rw (ops, ops_of_lists) (other_list_gone (rw ops at c.requires.may_go) taken c.args.place later)) c.step_at.ensures.taken
+
+pub ListNode::step-returns-in_ok-diffs-in-Map-clause-news : goal.ListNode::step-returns-in_ok-diffs-in-Map-clause-news
+ListNode::step-returns-in_ok-diffs-in-Map-clause-news g t c =
+    on_err_weaker c.mapped.result (list_news c.in_ok-diffs-in-Map.ensures.taken) c.mapped.ensures.some
+
+pub ListNode::step-returns-in_ok-diffs-in-Filter-clause-news : goal.ListNode::step-returns-in_ok-diffs-in-Filter-clause-news
+ListNode::step-returns-in_ok-diffs-in-Filter-clause-news g t c =
+    on_err_weaker c.filtered.result (list_news c.in_ok-diffs-in-Filter.ensures.taken) c.filtered.ensures.some
+
+pub ListNode::step-returns-in_ok-diffs-in-Sorted-clause-news : goal.ListNode::step-returns-in_ok-diffs-in-Sorted-clause-news
+ListNode::step-returns-in_ok-diffs-in-Sorted-clause-news g t c =
+    on_err_weaker c.sorted.result (list_news c.in_ok-diffs-in-Sorted.ensures.taken) c.sorted.ensures.some
+
+pub ListNode::step-returns-in_err-step-in-FilterBy-clause-news : goal.ListNode::step-returns-in_err-step-in-FilterBy-clause-news
+ListNode::step-returns-in_err-step-in-FilterBy-clause-news g t c =
+    rest_news (list_gone c.in_ok-diffs-in-FilterBy.ensures.taken) c.in_err-step-in-FilterBy.ensures.news
+
+pub ListNode::step-returns-in_ok-step-in-FilterBy-clause-news : goal.ListNode::step-returns-in_ok-step-in-FilterBy-clause-news
+ListNode::step-returns-in_ok-step-in-FilterBy-clause-news g t c =
+    let ops = filter_by_ops c.args.self.now c.deref_mut-in-FilterBy.result.now c.deref_mut-in-FilterBy-2.result.now c.in-FilterBy.op c.in-FilterBy.of c.in-FilterBy.bank c.in-FilterBy.is c.deref_mut-in-FilterBy.ensures.value c.deref_mut-in-FilterBy-2.ensures.value in
+    on_err_weaker c.filtered_by.result (by_news (as_let_in (rw ops at c.requires.may_go)) c.in_ok-diffs-in-FilterBy.ensures.taken (rw c.new-values.ensures.items at c.in_ok-step-in-FilterBy.ensures.taken)) (rw c.as_slice.ensures.value at c.filtered_by.ensures.some)
+
+pub ListNode::step-returns-in_err-step-in-MapBy-clause-news : goal.ListNode::step-returns-in_err-step-in-MapBy-clause-news
+ListNode::step-returns-in_err-step-in-MapBy-clause-news g t c =
+    rest_news (list_gone c.in_ok-diffs-in-MapBy.ensures.taken) c.in_err-step-in-MapBy.ensures.news
+
+pub ListNode::step-returns-in_ok-step-in-MapBy-clause-news : goal.ListNode::step-returns-in_ok-step-in-MapBy-clause-news
+ListNode::step-returns-in_ok-step-in-MapBy-clause-news g t c =
+    let ops = map_by_ops c.args.self.now c.deref_mut-in-MapBy.result.now c.deref_mut-in-MapBy-2.result.now c.in-MapBy.op c.in-MapBy.of c.in-MapBy.bank c.in-MapBy.is c.deref_mut-in-MapBy.ensures.value c.deref_mut-in-MapBy-2.ensures.value in
+    on_err_weaker c.mapped_by.result (by_news (as_raised (rw ops at c.requires.may_go)) c.in_ok-diffs-in-MapBy.ensures.taken (rw c.new-values-in-MapBy.ensures.items at c.in_ok-step-in-MapBy.ensures.taken)) (rw c.as_slice-in-MapBy.ensures.value at c.mapped_by.ensures.some)
+
+pub ListNode::step-returns-in_err-rights-in-Concat-clause-news : goal.ListNode::step-returns-in_err-rights-in-Concat-clause-news
+ListNode::step-returns-in_err-rights-in-Concat-clause-news g t c =
+    rest_news (list_gone c.in_ok-lefts-in-Concat.ensures.taken) c.in_err-rights-in-Concat.ensures.news
+
+pub ListNode::step-returns-in_ok-rights-in-Concat-clause-news : goal.ListNode::step-returns-in_ok-rights-in-Concat-clause-news
+ListNode::step-returns-in_ok-rights-in-Concat-clause-news g t c =
+    let ops = concat_ops c.args.self.now c.deref_mut-in-Concat.result.now c.deref_mut-in-Concat-2.result.now c.in-Concat.op c.in-Concat.left c.in-Concat.right c.in-Concat.is c.deref_mut-in-Concat.ensures.value c.deref_mut-in-Concat-2.ensures.value in
+    on_err_weaker c.joined.result (halves_news (rw ops at c.requires.may_go) c.in_ok-lefts-in-Concat.ensures.taken c.in_ok-rights-in-Concat.ensures.taken) c.joined.ensures.some
+
+pub ListNode::step-returns-in_err-step-in-Flatten-clause-news : goal.ListNode::step-returns-in_err-step-in-Flatten-clause-news
+ListNode::step-returns-in_err-step-in-Flatten-clause-news g t c =
+    rest_news (list_gone c.in_ok-diffs-in-Flatten.ensures.taken) c.in_err-step-in-Flatten.ensures.news
+
+pub ListNode::step-returns-in_ok-step-in-Flatten-clause-news : goal.ListNode::step-returns-in_ok-step-in-Flatten-clause-news
+ListNode::step-returns-in_ok-step-in-Flatten-clause-news g t c =
+    let ops = flatten_ops c.args.self.now c.deref_mut-in-Flatten.result.now c.deref_mut-in-Flatten-2.result.now c.in-Flatten.op c.in-Flatten.of c.in-Flatten.bank c.in-Flatten.is c.deref_mut-in-Flatten.ensures.value c.deref_mut-in-Flatten-2.ensures.value in
+    on_err_weaker c.flattened.result (blocks_news (rw ops at c.requires.may_go) c.in_ok-diffs-in-Flatten.ensures.taken (rw c.new-lists.ensures.items at c.in_ok-step-in-Flatten.ensures.taken)) (rw c.as_slice-in-Flatten.ensures.value at c.flattened.ensures.some)
+
+pub ListNode::step-returns-in_err-given-in-Pick-clause-news : goal.ListNode::step-returns-in_err-given-in-Pick-clause-news
+ListNode::step-returns-in_err-given-in-Pick-clause-news g t c =
+    signal_news c.in_ok-chooser-in-Pick.ensures.taken c.in_err-given-in-Pick.ensures.some
+
+pub ListNode::step-returns-in_err-diffs-in-Pick-clause-news : goal.ListNode::step-returns-in_err-diffs-in-Pick-clause-news
+ListNode::step-returns-in_err-diffs-in-Pick-clause-news g t c =
+    rest_news (signal_gone c.in_ok-chooser-in-Pick.ensures.taken) c.in_err-diffs-in-Pick.ensures.news
+
+pub ListNode::step-returns-in_ok-diffs-in-Pick-clause-news : goal.ListNode::step-returns-in_ok-diffs-in-Pick-clause-news
+ListNode::step-returns-in_ok-diffs-in-Pick-clause-news g t c =
+    on_err_weaker c.picked.result (λ some. rest_news (signal_gone c.in_ok-chooser-in-Pick.ensures.taken) (list_at_news c.in_ok-diffs-in-Pick.ensures.taken some)) c.picked.ensures.some
+
+pub ListNode::step-returns-in_ok-diffs-in-Keys-clause-news : goal.ListNode::step-returns-in_ok-diffs-in-Keys-clause-news
+ListNode::step-returns-in_ok-diffs-in-Keys-clause-news g t c =
+    on_err_weaker c.keys.result (map_news c.in_ok-diffs-in-Keys.ensures.taken) c.keys.ensures.some
+
+pub ListNode::step-returns-in_ok-diffs-in-Values-clause-news : goal.ListNode::step-returns-in_ok-diffs-in-Values-clause-news
+ListNode::step-returns-in_ok-diffs-in-Values-clause-news g t c =
+    on_err_weaker c.values.result (map_news c.in_ok-diffs-in-Values.ensures.taken) c.values.ensures.some
+
+pub SignalNode::step-returns-in_err-value-in-Switch-clause-news : goal.SignalNode::step-returns-in_err-value-in-Switch-clause-news
+SignalNode::step-returns-in_err-value-in-Switch-clause-news g t c =
+    rest_news (signal_gone c.in_ok-chooser-in-Switch.ensures.taken) c.in_err-value-in-Switch.ensures.news
+
+pub SignalNode::step-returns-in_ok-diffs-in-Sum-clause-news : goal.SignalNode::step-returns-in_ok-diffs-in-Sum-clause-news
+SignalNode::step-returns-in_ok-diffs-in-Sum-clause-news g t c =
+    on_err_weaker c.step-in-Sum-2.result (list_news c.in_ok-diffs-in-Sum.ensures.taken) c.step-in-Sum-2.ensures.some
+
+pub SignalBank::step-returns-in_err-add_value-in-Signal-clause-news : goal.SignalBank::step-returns-in_err-add_value-in-Signal-clause-news
+SignalBank::step-returns-in_err-add_value-in-Signal-clause-news g t c =
+    signal_news c.in_ok-value-in-Signal.ensures.taken c.in_err-add_value-in-Signal.ensures.some
+
+pub SignalBank::step-returns-in_ok-add_value-in-Signal-clause-news : goal.SignalBank::step-returns-in_ok-add_value-in-Signal-clause-news
+SignalBank::step-returns-in_ok-add_value-in-Signal-clause-news g t c =
+    on_err_weaker c.step-in-Signal.result (rest_news (signal_gone c.in_ok-value-in-Signal.ensures.taken)) c.step-in-Signal.ensures.news
+
+pub ListBank::step-returns-in_err-add_list-in-List-clause-news : goal.ListBank::step-returns-in_err-add_list-in-List-clause-news
+ListBank::step-returns-in_err-add_list-in-List-clause-news g t c =
+    list_news c.in_ok-diffs-in-List.ensures.taken c.in_err-add_list-in-List.ensures.some
+
+pub ListBank::step-returns-in_ok-add_list-in-List-clause-news : goal.ListBank::step-returns-in_ok-add_list-in-List-clause-news
+ListBank::step-returns-in_ok-add_list-in-List-clause-news g t c =
+    on_err_weaker c.step-in-List.result (rest_news (list_gone c.in_ok-diffs-in-List.ensures.taken)) c.step-in-List.ensures.news

@@ -1,5 +1,6 @@
 use Rattle.std.proofs.Common.{◌∙◌, ap}
 use Rattle.sig_nodes.proofs.MapArms.{map_goes, of_map_flow}
+use Rattle.sig_nodes.proofs.News.{list_news, map_news, on_err_known}
 use Rattle.sig_nodes.proofs.Tagging.{tagged_lawful, tagged_short, tagged_stands}
 use Rattle.sig_maps.specs.Tables.{entries_gives}
 use Rattle.sig_rows.specs.declared.rows.Body.{Body}
@@ -44,3 +45,9 @@ returns-in_ok-tagged-in-Enumerate-clause-stands g c =
       tagged_stands below c.requires.can (rw is at c.requires.short) (rw is at c.requires.stands).0 c.tagged.new.op c.in_ok-tagged-in-Enumerate.ensures.state,
       below.stands,
     )
+
+pub returns-in_err-pairs-in-Entries-clause-news : goal.returns-in_err-pairs-in-Entries-clause-news
+returns-in_err-pairs-in-Entries-clause-news g c = on_err_known c.from_residual-in_err-pairs-in-Entries.result (map_news c.in_ok-diffs-in-Entries.ensures.taken c.in_err-pairs-in-Entries.ensures.some)
+
+pub returns-in_err-tagged-in-Enumerate-clause-news : goal.returns-in_err-tagged-in-Enumerate-clause-news
+returns-in_err-tagged-in-Enumerate-clause-news g c = on_err_known c.from_residual-in_err-tagged-in-Enumerate.result (list_news c.in_ok-diffs-in-Enumerate.ensures.taken c.in_err-tagged-in-Enumerate.ensures.some)

@@ -26,4 +26,4 @@ returns-in-Ok-clause-stepped g c =
 
 pub returns-in-Err-clause-lost : goal.returns-in-Err-clause-lost
 returns-in-Err-clause-lost g c =
-    rw c.put_stage.ensures (lost (g.P.Port.state c.args.port.now) (g.P.Port.state c.walk_on.new.port) c.args.self.now c.walk_on.new.walk c.put_stage.new.stage c.requires.follows c.requires.ready c.walk_on.ensures.gone)
+    rw c.put_stage.ensures (lost (g.P.Port.state c.args.port.now) (g.P.Port.state c.walk_on.new.port) c.args.self.now c.walk_on.new.walk c.put_stage.new.stage c.requires.follows c.requires.ready c.walk_on.ensures.gone c.in-Err.ensures.news)
