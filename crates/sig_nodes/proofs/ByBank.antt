@@ -110,8 +110,8 @@ module _ {s t : PortState} {old mid : Progress} {op : BySignals} {of after : Lis
   }
 
   -- the bank has as many signals as the operator knows
-  pub by_count : length op.signals ≡ signal_count bank
-  by_count = rw may.signals (count_signals (holds_at s old) bank)
+  pub by_count : (count : ℕ) → count ≡ length op.signals → 0 + signal_count bank ≡ count
+  by_count count is = omega (arith, is ∙ ap length may.signals ∙ count_signals (holds_at s old) bank)
 
   module _ {u : PortState} {new : Progress} {rest : SignalsOps} {values : List Given} (second : SignalsGone t u mid new 0 bank rest [] values) where
     abbrev both : BothGone (list_part (list_tree of)) (signals_part 0 (signal_trees bank)) s t u old mid new diffs values

@@ -1,5 +1,5 @@
 -- A flattened list: the outer list has gone on, and then the lists of the bank.
-use Rattle.std.proofs.Common.{ℤ, ◌≡◌, ◌≢◌, ◌∙◌, ℕ, suc, ◌+◌, List, [], ◌∷◌, ◌++◌, length, refl, sym, ap, arith, le_trans, append_assoc}
+use Rattle.std.proofs.Common.{ℤ, ◌≡◌, ◌≢◌, ◌∙◌, ℕ, suc, ◌+◌, List, [], ◌∷◌, ◌++◌, length, refl, sym, ap, ap₂, arith, le_trans, append_assoc}
 use Rattle.std.proofs.lemmas.List.{append-nil}
 use Rattle.std.specs.List.{fold}
 use Rattle.sig_diff.specs.declared.contents.Content.{Content}
@@ -57,10 +57,12 @@ module _ {s t : PortState} {old mid : Progress} {of after : ListOps} {bank : Lis
   all_lists_gone {u} {new} {rest} {place} {before} {between} {lists} between_is second =
       let both : BothGone (list_part (list_tree of)) (lists_part (place + 1) (list_trees bank)) s t u old mid new diffs (lists_given (place + 1) (list_flows (gone_by u mid new) (list_trees bank))) =
       record { one = first_list; second = record { gone = second.gone; walked = second.walked; flow = refl } } in
+      let each : List (List (VecDiff ℤ)) = list_flows (gone_by u old new) (list_trees bank) in
       record {
         gone = both_gone both;
         walked = both_walked both;
-        flow = second.flow ∙ rw (between_is, ← first_flow both, ← second_flow both) (append_assoc before (lists_given place (diffs ∷ [])) _) ∙ ap (λ (given : List GivenList). before ++ given) (sym (list_first place diffs (list_flows (gone_by u old new) (list_trees bank))));
+        flow = second.flow ∙ ap₂ (λ (first others : List GivenList). first ++ others) between_is (second_flow both) ∙ append_assoc before (lists_given place (diffs ∷ [])) _
+            ∙ ap (λ (given : List GivenList). before ++ given) (sym (list_first place diffs each) ∙ ap (λ (diffs : List (VecDiff ℤ)). lists_given place (diffs ∷ each)) (first_flow both));
         stands = (list_stays first both, second.stands);
         tree = rw (first.tree, second.tree) refl;
       }
@@ -95,8 +97,8 @@ module _ {s t : PortState} {old mid : Progress} {op : Blocks} {of after : ListOp
   }
 
   -- the bank has as many lists as the operator knows
-  pub blocks_count : length op.parts ≡ list_count bank
-  blocks_count = rw may.stands.1 (count_lists (holds_at s old) bank)
+  pub blocks_count : (count : ℕ) → count ≡ length op.parts → 0 + list_count bank ≡ count
+  blocks_count count is = omega (arith, is ∙ ap length may.stands.1 ∙ count_lists (holds_at s old) bank)
 
   module _ {u : PortState} {new : Progress} {rest : ListsOps} {given_lists : List GivenList} (second : ListsGone t u mid new 0 bank rest [] given_lists) where
     abbrev both : BothGone (list_part (list_tree of)) (lists_part 0 (list_trees bank)) s t u old mid new diffs given_lists

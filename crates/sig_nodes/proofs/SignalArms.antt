@@ -1,5 +1,5 @@
 -- A step of a signal's operators on one signal below it, and of a bank's parts: what they need, and what is left.
-use Rattle.std.proofs.Common.{ℤ, Option, None, ◌≡◌, ◌∙◌, ℕ, suc, ◌+◌, List, [], ◌∷◌, ◌++◌, length, refl, sym, ap, append_assoc, option_and_then, option_map}
+use Rattle.std.proofs.Common.{ℤ, Option, None, ◌≡◌, ◌∙◌, ℕ, suc, ◌+◌, List, [], ◌∷◌, ◌++◌, length, refl, sym, ap, ap₂, append_assoc, option_and_then, option_map}
 use Rattle.std.proofs.lemmas.List.{append-nil}
 use Rattle.std.specs.Option.{unwrap_or}
 use Rattle.sig_diff.specs.declared.differences.VecDiff.{VecDiff}
@@ -91,10 +91,12 @@ module _ {s t : PortState} {old mid : Progress} {of after : SignalOps} {bank : S
   all_gone {u} {new} {rest} {place} {before} {between} {values} between_is second =
       let both : BothGone (signal_part (signal_tree of)) (signals_part (place + 1) (signal_trees bank)) s t u old mid new value (values_given (place + 1) (value_flows (gone_by u mid new) (signal_trees bank))) =
       record { one = one; second = record { gone = second.gone; walked = second.walked; flow = refl } } in
+      let each : List (Option ℤ) = value_flows (gone_by u old new) (signal_trees bank) in
       record {
         gone = both_gone both;
         walked = both_walked both;
-        flow = second.flow ∙ rw (between_is, ← first_flow both, ← second_flow both) (append_assoc before (values_given place (value ∷ [])) _) ∙ ap (λ (given : List Given). before ++ given) (sym (value_first place value (value_flows (gone_by u old new) (signal_trees bank))));
+        flow = second.flow ∙ ap₂ (λ (first others : List Given). first ++ others) between_is (second_flow both) ∙ append_assoc before (values_given place (value ∷ [])) _
+            ∙ ap (λ (given : List Given). before ++ given) (sym (value_first place value each) ∙ ap (λ (value : Option ℤ). values_given place (value ∷ each)) (first_flow both));
         stands = (still_stands first both, second.stands);
         tree = rw (first.tree, second.tree) refl;
       }

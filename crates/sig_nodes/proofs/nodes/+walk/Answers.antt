@@ -1,11 +1,11 @@
 use Rattle.std.proofs.Common.{◌≡◌, ◌∙◌, ◌-◌, suc, rules, refl, sym, arith, ◌+◌}
-use Rattle.std.proofs.lemmas.Result.{IfOk-weaker, on_ok_weaker}
+use Rattle.std.proofs.lemmas.Result.{IfOk-weaker, on_err_weaker, on_ok_weaker}
 use Rattle.sig_nodes.proofs.ByBank.{as_let_in, as_raised, by_bank, by_count, by_each, by_few, by_goes, by_lawful, by_list, by_news, let_in_gone, raised_gone}
 use Rattle.sig_nodes.proofs.ByBlocks.{all_lists_gone, blocks_bank, blocks_count, blocks_gone, blocks_may_flatten, blocks_news, no_lists_gone, outer_may_go, rest_lists_may_go}
 use Rattle.sig_nodes.proofs.ByHalves.{halves_gone, halves_may_join, halves_news, left_may_go, right_may_go}
 use Rattle.sig_nodes.proofs.ListArms.{filter_goes, filter_gone, length_gone, length_lawful, length_short, map_gone, sorted_goes, sorted_gone, total_gone, total_lawful, total_short}
 use Rattle.sig_nodes.proofs.MapArms.{key_gone, keys_go, keys_gone, values_go, values_gone}
-use Rattle.sig_nodes.proofs.News.{list_at_news, list_news, map_news, rest_news, signal_news}
+use Rattle.sig_nodes.proofs.News.{list_at_news, list_news, map_news, on_err_known, rest_news, signal_news}
 use Rattle.sig_nodes.proofs.OverGiven.{one_more_place}
 use Rattle.sig_nodes.proofs.Parts.{gone_twice, list_gone, signal_gone}
 use Rattle.sig_nodes.proofs.PickSteps.{pick_bank, pick_gone, pick_gone_empty, pick_lawful, pick_may_go}
@@ -55,7 +55,7 @@ ListNode::step-step-requires-in-FilterBy g t c κs within =
 pub ListNode::step-step-requires-in-FilterBy-2 : goal.ListNode::step-step-requires-in-FilterBy-2
 ListNode::step-step-requires-in-FilterBy-2 g t c κs within =
     let ops = filter_by_ops c.args.self.now c.deref_mut-in-FilterBy.result.now c.deref_mut-in-FilterBy-2.result.now c.in-FilterBy.op c.in-FilterBy.of c.in-FilterBy.bank c.in-FilterBy.is c.deref_mut-in-FilterBy.ensures.value c.deref_mut-in-FilterBy-2.ensures.value in
-    (search (rules, ListNode.the_lemmas, SignalBank.the_lemmas, c.decreases, c.in-FilterBy.is, c.deref_mut-in-FilterBy-2.ensures.value), (within.0, (within.1, (by_bank (as_let_in (rw ops at c.requires.may_go)) c.in_ok-diffs-in-FilterBy.ensures.taken, sym (c.signal_count.ensures ∙ by_count (as_let_in (rw ops at c.requires.may_go)) c.in_ok-diffs-in-FilterBy.ensures.taken)))))
+    (search (rules, ListNode.the_lemmas, SignalBank.the_lemmas, c.decreases, c.in-FilterBy.is, c.deref_mut-in-FilterBy-2.ensures.value), (within.0, (within.1, (by_bank (as_let_in (rw ops at c.requires.may_go)) c.in_ok-diffs-in-FilterBy.ensures.taken, by_count (as_let_in (rw ops at c.requires.may_go)) c.in_ok-diffs-in-FilterBy.ensures.taken c.signal_count.result c.signal_count.ensures))))
 
 pub ListNode::step-returns-in_err-step-in-FilterBy-clause-gone : goal.ListNode::step-returns-in_err-step-in-FilterBy-clause-gone
 ListNode::step-returns-in_err-step-in-FilterBy-clause-gone g t c =
@@ -93,7 +93,7 @@ ListNode::step-step-requires-in-MapBy g t c κs within =
 pub ListNode::step-step-requires-in-MapBy-2 : goal.ListNode::step-step-requires-in-MapBy-2
 ListNode::step-step-requires-in-MapBy-2 g t c κs within =
     let ops = map_by_ops c.args.self.now c.deref_mut-in-MapBy.result.now c.deref_mut-in-MapBy-2.result.now c.in-MapBy.op c.in-MapBy.of c.in-MapBy.bank c.in-MapBy.is c.deref_mut-in-MapBy.ensures.value c.deref_mut-in-MapBy-2.ensures.value in
-    (search (rules, ListNode.the_lemmas, SignalBank.the_lemmas, c.decreases, c.in-MapBy.is, c.deref_mut-in-MapBy-2.ensures.value), (within.0, (within.1, (by_bank (as_raised (rw ops at c.requires.may_go)) c.in_ok-diffs-in-MapBy.ensures.taken, sym (c.signal_count-in-MapBy.ensures ∙ by_count (as_raised (rw ops at c.requires.may_go)) c.in_ok-diffs-in-MapBy.ensures.taken)))))
+    (search (rules, ListNode.the_lemmas, SignalBank.the_lemmas, c.decreases, c.in-MapBy.is, c.deref_mut-in-MapBy-2.ensures.value), (within.0, (within.1, (by_bank (as_raised (rw ops at c.requires.may_go)) c.in_ok-diffs-in-MapBy.ensures.taken, by_count (as_raised (rw ops at c.requires.may_go)) c.in_ok-diffs-in-MapBy.ensures.taken c.signal_count-in-MapBy.result c.signal_count-in-MapBy.ensures))))
 
 pub ListNode::step-returns-in_err-step-in-MapBy-clause-gone : goal.ListNode::step-returns-in_err-step-in-MapBy-clause-gone
 ListNode::step-returns-in_err-step-in-MapBy-clause-gone g t c =
@@ -159,7 +159,7 @@ ListNode::step-step-requires-in-Flatten g t c κs within =
 pub ListNode::step-step-requires-in-Flatten-2 : goal.ListNode::step-step-requires-in-Flatten-2
 ListNode::step-step-requires-in-Flatten-2 g t c κs within =
     let ops = flatten_ops c.args.self.now c.deref_mut-in-Flatten.result.now c.deref_mut-in-Flatten-2.result.now c.in-Flatten.op c.in-Flatten.of c.in-Flatten.bank c.in-Flatten.is c.deref_mut-in-Flatten.ensures.value c.deref_mut-in-Flatten-2.ensures.value in
-    (search (rules, ListNode.the_lemmas, ListBank.the_lemmas, c.decreases, c.in-Flatten.is, c.deref_mut-in-Flatten-2.ensures.value), (within.0, (within.1, (blocks_bank (rw ops at c.requires.may_go) c.in_ok-diffs-in-Flatten.ensures.taken, sym (c.part_count.ensures ∙ blocks_count (rw ops at c.requires.may_go) c.in_ok-diffs-in-Flatten.ensures.taken)))))
+    (search (rules, ListNode.the_lemmas, ListBank.the_lemmas, c.decreases, c.in-Flatten.is, c.deref_mut-in-Flatten-2.ensures.value), (within.0, (within.1, (blocks_bank (rw ops at c.requires.may_go) c.in_ok-diffs-in-Flatten.ensures.taken, blocks_count (rw ops at c.requires.may_go) c.in_ok-diffs-in-Flatten.ensures.taken c.part_count.result c.part_count.ensures))))
 
 pub ListNode::step-returns-in_err-step-in-Flatten-clause-gone : goal.ListNode::step-returns-in_err-step-in-Flatten-clause-gone
 ListNode::step-returns-in_err-step-in-Flatten-clause-gone g t c =
@@ -446,7 +446,7 @@ ListNode::step-returns-in_ok-diffs-in-Sorted-clause-news g t c =
 
 pub ListNode::step-returns-in_err-step-in-FilterBy-clause-news : goal.ListNode::step-returns-in_err-step-in-FilterBy-clause-news
 ListNode::step-returns-in_err-step-in-FilterBy-clause-news g t c =
-    rest_news (list_gone c.in_ok-diffs-in-FilterBy.ensures.taken) c.in_err-step-in-FilterBy.ensures.news
+    on_err_known _ (rest_news (list_gone c.in_ok-diffs-in-FilterBy.ensures.taken) c.in_err-step-in-FilterBy.ensures.news)
 
 pub ListNode::step-returns-in_ok-step-in-FilterBy-clause-news : goal.ListNode::step-returns-in_ok-step-in-FilterBy-clause-news
 ListNode::step-returns-in_ok-step-in-FilterBy-clause-news g t c =
@@ -455,7 +455,7 @@ ListNode::step-returns-in_ok-step-in-FilterBy-clause-news g t c =
 
 pub ListNode::step-returns-in_err-step-in-MapBy-clause-news : goal.ListNode::step-returns-in_err-step-in-MapBy-clause-news
 ListNode::step-returns-in_err-step-in-MapBy-clause-news g t c =
-    rest_news (list_gone c.in_ok-diffs-in-MapBy.ensures.taken) c.in_err-step-in-MapBy.ensures.news
+    on_err_known _ (rest_news (list_gone c.in_ok-diffs-in-MapBy.ensures.taken) c.in_err-step-in-MapBy.ensures.news)
 
 pub ListNode::step-returns-in_ok-step-in-MapBy-clause-news : goal.ListNode::step-returns-in_ok-step-in-MapBy-clause-news
 ListNode::step-returns-in_ok-step-in-MapBy-clause-news g t c =
@@ -464,7 +464,7 @@ ListNode::step-returns-in_ok-step-in-MapBy-clause-news g t c =
 
 pub ListNode::step-returns-in_err-rights-in-Concat-clause-news : goal.ListNode::step-returns-in_err-rights-in-Concat-clause-news
 ListNode::step-returns-in_err-rights-in-Concat-clause-news g t c =
-    rest_news (list_gone c.in_ok-lefts-in-Concat.ensures.taken) c.in_err-rights-in-Concat.ensures.news
+    on_err_known _ (rest_news (list_gone c.in_ok-lefts-in-Concat.ensures.taken) c.in_err-rights-in-Concat.ensures.news)
 
 pub ListNode::step-returns-in_ok-rights-in-Concat-clause-news : goal.ListNode::step-returns-in_ok-rights-in-Concat-clause-news
 ListNode::step-returns-in_ok-rights-in-Concat-clause-news g t c =
@@ -473,7 +473,7 @@ ListNode::step-returns-in_ok-rights-in-Concat-clause-news g t c =
 
 pub ListNode::step-returns-in_err-step-in-Flatten-clause-news : goal.ListNode::step-returns-in_err-step-in-Flatten-clause-news
 ListNode::step-returns-in_err-step-in-Flatten-clause-news g t c =
-    rest_news (list_gone c.in_ok-diffs-in-Flatten.ensures.taken) c.in_err-step-in-Flatten.ensures.news
+    on_err_known _ (rest_news (list_gone c.in_ok-diffs-in-Flatten.ensures.taken) c.in_err-step-in-Flatten.ensures.news)
 
 pub ListNode::step-returns-in_ok-step-in-Flatten-clause-news : goal.ListNode::step-returns-in_ok-step-in-Flatten-clause-news
 ListNode::step-returns-in_ok-step-in-Flatten-clause-news g t c =
@@ -482,11 +482,11 @@ ListNode::step-returns-in_ok-step-in-Flatten-clause-news g t c =
 
 pub ListNode::step-returns-in_err-given-in-Pick-clause-news : goal.ListNode::step-returns-in_err-given-in-Pick-clause-news
 ListNode::step-returns-in_err-given-in-Pick-clause-news g t c =
-    signal_news c.in_ok-chooser-in-Pick.ensures.taken c.in_err-given-in-Pick.ensures.some
+    on_err_known _ (signal_news c.in_ok-chooser-in-Pick.ensures.taken c.in_err-given-in-Pick.ensures.some)
 
 pub ListNode::step-returns-in_err-diffs-in-Pick-clause-news : goal.ListNode::step-returns-in_err-diffs-in-Pick-clause-news
 ListNode::step-returns-in_err-diffs-in-Pick-clause-news g t c =
-    rest_news (signal_gone c.in_ok-chooser-in-Pick.ensures.taken) c.in_err-diffs-in-Pick.ensures.news
+    on_err_known _ (rest_news (signal_gone c.in_ok-chooser-in-Pick.ensures.taken) c.in_err-diffs-in-Pick.ensures.news)
 
 pub ListNode::step-returns-in_ok-diffs-in-Pick-clause-news : goal.ListNode::step-returns-in_ok-diffs-in-Pick-clause-news
 ListNode::step-returns-in_ok-diffs-in-Pick-clause-news g t c =
@@ -502,7 +502,7 @@ ListNode::step-returns-in_ok-diffs-in-Values-clause-news g t c =
 
 pub SignalNode::step-returns-in_err-value-in-Switch-clause-news : goal.SignalNode::step-returns-in_err-value-in-Switch-clause-news
 SignalNode::step-returns-in_err-value-in-Switch-clause-news g t c =
-    rest_news (signal_gone c.in_ok-chooser-in-Switch.ensures.taken) c.in_err-value-in-Switch.ensures.news
+    on_err_known _ (rest_news (signal_gone c.in_ok-chooser-in-Switch.ensures.taken) c.in_err-value-in-Switch.ensures.news)
 
 pub SignalNode::step-returns-in_ok-diffs-in-Sum-clause-news : goal.SignalNode::step-returns-in_ok-diffs-in-Sum-clause-news
 SignalNode::step-returns-in_ok-diffs-in-Sum-clause-news g t c =
@@ -510,7 +510,7 @@ SignalNode::step-returns-in_ok-diffs-in-Sum-clause-news g t c =
 
 pub SignalBank::step-returns-in_err-add_value-in-Signal-clause-news : goal.SignalBank::step-returns-in_err-add_value-in-Signal-clause-news
 SignalBank::step-returns-in_err-add_value-in-Signal-clause-news g t c =
-    signal_news c.in_ok-value-in-Signal.ensures.taken c.in_err-add_value-in-Signal.ensures.some
+    on_err_known _ (signal_news c.in_ok-value-in-Signal.ensures.taken c.in_err-add_value-in-Signal.ensures.some)
 
 pub SignalBank::step-returns-in_ok-add_value-in-Signal-clause-news : goal.SignalBank::step-returns-in_ok-add_value-in-Signal-clause-news
 SignalBank::step-returns-in_ok-add_value-in-Signal-clause-news g t c =
@@ -518,7 +518,7 @@ SignalBank::step-returns-in_ok-add_value-in-Signal-clause-news g t c =
 
 pub ListBank::step-returns-in_err-add_list-in-List-clause-news : goal.ListBank::step-returns-in_err-add_list-in-List-clause-news
 ListBank::step-returns-in_err-add_list-in-List-clause-news g t c =
-    list_news c.in_ok-diffs-in-List.ensures.taken c.in_err-add_list-in-List.ensures.some
+    on_err_known _ (list_news c.in_ok-diffs-in-List.ensures.taken c.in_err-add_list-in-List.ensures.some)
 
 pub ListBank::step-returns-in_ok-add_list-in-List-clause-news : goal.ListBank::step-returns-in_ok-add_list-in-List-clause-news
 ListBank::step-returns-in_ok-add_list-in-List-clause-news g t c =
