@@ -91,11 +91,7 @@ pub fn mapped_by(
 }
 
 /// Adds what a map by signals gives for the values that its signals gave.
-fn map_signals(
-    op: &mut MapBy,
-    values: &[Given],
-    given: &mut Diffs<i64>,
-) -> Result<(), NoMemory>
+fn map_signals(op: &mut MapBy, values: &[Given], given: &mut Diffs<i64>) -> Result<(), NoMemory>
     requires short { length op.old.items ≤ 65536 }
     requires each { All (λ (value : Given). value.place < length op.old.signals) values.now }
     ensures given { OnOk result (given.new ≡ given.old ++ given_along (gives_by map_by_signal) next_by op.old values.now) }

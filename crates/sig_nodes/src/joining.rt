@@ -80,11 +80,7 @@ fn give_outer(op: &mut Flatten, diffs: &Diffs<i64>, given: &mut Diffs<i64>) -> R
 }
 
 /// Adds what blocks give for the differences that lists of the bank gave.
-fn give_parts(
-    op: &mut Flatten,
-    lists: &[GivenList],
-    given: &mut Diffs<i64>,
-) -> Result<(), NoMemory>
+fn give_parts(op: &mut Flatten, lists: &[GivenList], given: &mut Diffs<i64>) -> Result<(), NoMemory>
     requires may_take { MayTakeGiven op.old lists.now }
     ensures given { OnOk result (given.new ≡ given.old ++ given_along blocks_give blocks_next op.old lists.now) }
     ensures state { OnOk result (op.new ≡ fold blocks_next op.old lists.now) }

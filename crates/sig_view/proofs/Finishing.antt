@@ -10,8 +10,8 @@ use Rattle.sig_hist.specs.declared.ports.Met.{Met}
 use Rattle.sig_walk.proofs.Leaving.{polled_again, polled_by_looks, polled_not, polled_of}
 use Rattle.sig_walk.proofs.Listening.{not_closed, same_sources}
 use Rattle.sig_walk.proofs.Newer.{news_same}
-use Rattle.sig_view.proofs.Stepping.{KeepsPort, before_is, moved_on, next_tags, ready_again, sound_row, tags_stay, underway}
-use Rattle.sig_view.specs.GoingOn.{HasGoneOn, HasLost, HasStepped, IsBehind}
+use Rattle.sig_view.proofs.Stepping.{KeepsPort, before_is, lost_after, moved_on, next_tags, ready_again, sound_row, tags_stay, underway}
+use Rattle.sig_view.specs.GoingOn.{HasGoneOn, HasLost, HasStepped, IsAnswered, IsBehind}
 use Rattle.sig_walk.specs.Waiting.{HasPolled, CanWait, HasListened, HasHeard, HasRested, IsLast, IsLastOpen, is_open_leaf, is_open_mark}
 use Rattle.sig_view.specs.Polling.{HasStayed, IsAtEnd, IsAtRest, IsLaterRow, IsNext, IsPoll, IsSameTask}
 use Rattle.sig_rows.specs.SoundRows.{IsNextRow, IsShownBy, Seen, is_awaited}
@@ -20,6 +20,7 @@ use Rattle.sig_view.specs.Tasks.{IsReady, IsTask, contents_of, is_following, pos
 use Rattle.sig_walk.specs.Walking.{IsCaughtUp, IsFresh, first_word, is_seen_closed, mark_of, met_since, was_held}
 use Rattle.sig_rows.specs.declared.rows.Body.{Body}
 use Rattle.sig_rows.specs.declared.rows.Row.{Row}
+use Rattle.sig_view.specs.declared.task.Going.{Going}
 use Rattle.sig_view.specs.declared.task.Going.TheVariants.{Answered, Nowhere}
 use Rattle.sig_view.specs.declared.task.Polled.{Polled}
 use Rattle.sig_view.specs.declared.task.Polled.TheVariants as polled
@@ -27,6 +28,23 @@ use Rattle.sig_view.specs.declared.task.Stage.TheVariants.{Ended}
 use Rattle.sig_view.specs.declared.task.ViewTask.{ViewTask}
 use Rattle.sig_walk.specs.declared.walk.Mark.{Mark}
 use Rattle.sig_walk.specs.declared.walk.Mark.TheVariants.{Skipped}
+
+-- ---- a walk and its answer
+
+abbrev row_at : ViewTask → Body → Row
+row_at task body = record { at = positions_of task; body = body }
+
+pub gone_on : {T : Type 0} (s t : PortState) (old mid new : ViewTask) (body : Body) (told : T) (going : Going T) → IsReady s old → HasStepped s t old mid body → IsAnswered mid new body told going → HasGoneOn s t old new told going
+gone_on s t old mid new body told (Answered polled.NoMemory) ready stepped is = lost_after s t old mid body ready stepped new is.0 is.1
+gone_on s t old mid new body told (Answered (polled.Batch row token held)) ready stepped is =
+    let same_body : row.body ≡ body = ap (λ (row : Row). row.body) is.2 in
+    let there : HasStepped s t old mid row.body = rw same_body stepped in
+    rw is.0 (there, (refl, is.1, is.2 ∙ ap (row_at mid) (sym same_body), is.3, is.4))
+gone_on s t old mid new body told (Answered (polled.Again word token)) ready stepped is = rw is.0 (body, stepped, (refl, is.1, is.2, is.3))
+gone_on s t old mid new body told (Answered polled.Pending) ready stepped is = absurd is
+gone_on s t old mid new body told (Answered polled.Ended) ready stepped is = absurd is
+gone_on s t old mid new body told (Answered polled.Failed) ready stepped is = absurd is
+gone_on s t old mid new body told (Nowhere token) ready stepped is = rw is.0 (body, stepped, (refl, is.1, is.2, is.3))
 
 -- ---- between the walks of a poll
 
