@@ -10,7 +10,7 @@ use Rattle.sig_nodes.specs.Nodes.{ListOps, ListsOps, SignalOps, list_trees}
 use Rattle.sig_nodes.specs.Steps.{ListAtGone, ListGone, MapGone, SignalGone}
 use Rattle.sig_rows.proofs.Still.{still_map}
 use Rattle.sig_walk.proofs.Newer.{news_before, risen_news}
-use Rattle.sig_walk.specs.Walking.{HasGone, HasNews, Progress}
+use Rattle.sig_walk.specs.Walking.{HasNews, Progress}
 
 all_stay : (t : PortState) (old new : Progress) → new.positions ≡ old.positions → AllStay (gone_by t old new)
 all_stay t old new same leaf = ap (λ (positions : List ℕ). slice_index positions leaf) (sym same)
