@@ -49,7 +49,9 @@ module _ {V : Type 0} (plan_of : V → SourcePlan) (history_of : V → List Entr
   no_holder : (all : List (Seat (Option V) (List Account))) → AreAll all → All HasNoTurn all → (source : ℕ) → source < length plans → (held : Option ℕ) → told.holder source ≡ held → held ≡ None
   no_holder all are rest source within None is = refl
   no_holder all are rest source within (Some number) is =
-      let who = are.covers number (told.holders source number within is) in
+      let it = told.holders source number within is in
+      let there = told.accounts it.view it.at it.all it.account it.is_view it.is_account in
+      let who = are.covers number (subst (λ (n : ℕ). n < seats) it.of_number there.of_seat) in
       let index = who.0 in
       let its = (are.accounts index who.1 who.2).1 in
       let turn = its.only source within (is ∙ ap Some (sym who.3)) in

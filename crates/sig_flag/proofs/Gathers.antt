@@ -12,7 +12,9 @@ use Rattle.atomic_table.specs.declared.shared.Seat.{Seat}
 use Rattle.atomic_table.proofs.Lists.{at_set, set_here, set_else, at_longer}
 use Rattle.sig_flag.proofs.Keeping.{Whole, rings_of, tells_of, moved}
 use Rattle.sig_flag.proofs.Peels.{moved_account}
-use Rattle.sig_flag.proofs.Stepping.{Rule, Turned, within}
+use Rattle.sig_flag.proofs.Owing.{numbers_of, there_owed, is_there}
+use Rattle.sig_flag.proofs.Stepping.{Rule, Turned}
+use Rattle.sig_flag.proofs.Views.{within}
 use Rattle.sig_flag.specs.Closing.{Rests}
 use Rattle.sig_flag.specs.Layouts.{Layout}
 use Rattle.sig_flag.specs.Machines.{account}
@@ -61,6 +63,42 @@ lies views id other both view all is = ⊎_elim
     (λ gone. spent gone.1)
     (λ kept. ⊎_elim (λ own. at_both own.0 own.1) (λ else. elsewhere else.0 kept.0 else.1) (at_set views id view both all kept.1))
     (at_set (set views id both) other view no_account all is)
+
+at_back : {X : Type 0} (xs ys : List X) (at : ℕ) (x : X) → get_elem? ys at ≡ slot.some x → get_elem? (xs ++ ys) (length xs + at) ≡ slot.some x
+at_back [] ys at x is = subst (λ (k : ℕ). get_elem? ys k ≡ slot.some x) (let same : at ≡ 0 + at = omega arith in same) is
+at_back (first ∷ xs) ys at x is = subst (λ (k : ℕ). get_elem? (first ∷ xs ++ ys) k ≡ slot.some x) (let same : suc (length xs + at) ≡ suc (length xs) + at = omega arith in same) (at_back xs ys at x is)
+
+-- what somebody has to do somebody has to do after the join
+module _ (owed : Account → List ℕ) (views : List (List Account)) (id other : ℕ) (own others : List Account) (different : other ≢ id) (at_id : get_elem? views id ≡ slot.some own) (at_other : get_elem? views other ≡ slot.some others) where
+  owed_there : (index what : ℕ) (account : Account) → get_elem? (others ++ own) index ≡ slot.some account → is_among what (owed account) ≡ true → IsOwed owed (set (set views id (others ++ own)) other no_account) what
+  owed_there index what account is owes = record {
+    view = id;
+    at = index;
+    all = others ++ own;
+    account = account;
+    is_view = set_else (set views id (others ++ own)) other id no_account (λ same. different (sym same)) ∙ set_here views id (others ++ own) (within views id own at_id);
+    is_account = is;
+    owes = owes;
+  }
+
+  gathered_owed : (what : ℕ) → IsOwed owed views what → IsOwed owed (set (set views id (others ++ own)) other no_account) what
+  gathered_owed what was = dite (ℕ_discrete was.view id)
+      (λ same.
+      let all_is : own ≡ was.all = some-injective own was.all (sym at_id ∙ ap (get_elem? views) (sym same) ∙ was.is_view) in
+      owed_there (length others + was.at) what was.account (at_back others own was.at was.account (subst (λ (l : List Account). get_elem? l was.at ≡ slot.some was.account) (sym all_is) was.is_account)) was.owes)
+      (λ not_id. dite (ℕ_discrete was.view other)
+      (λ same.
+      let all_is : others ≡ was.all = some-injective others was.all (sym at_other ∙ ap (get_elem? views) (sym same) ∙ was.is_view) in
+      owed_there was.at what was.account (at_longer others own was.at was.account (subst (λ (l : List Account). get_elem? l was.at ≡ slot.some was.account) (sym all_is) was.is_account)) was.owes)
+      (λ not_other. record {
+        view = was.view;
+        at = was.at;
+        all = was.all;
+        account = was.account;
+        is_view = set_else (set views id (others ++ own)) other was.view no_account not_other ∙ set_else views id was.view (others ++ own) not_id ∙ was.is_view;
+        is_account = was.is_account;
+        owes = was.owes;
+      }))
 
 module _ {V : Type 0} (plan_of : V → SourcePlan) (history_of : V → List Entry) (plans : List SourcePlan) (seats : ℕ) (s : State (Option V) (List Account)) (told : Rule plan_of history_of plans seats s) (id other : ℕ) (own others : List Account)
     (different : other ≢ id) (at_id : get_elem? s.views id ≡ slot.some own) (at_other : get_elem? s.views other ≡ slot.some others) where
@@ -112,48 +150,13 @@ module _ {V : Type 0} (plan_of : V → SourcePlan) (history_of : V → List Entr
       wide = told.wide;
       sources = told.sources;
       turns = told.turns;
-      holders = told.holders;
+      holders = λ source number near holds. is_there (set (set s.views id (others ++ own)) other no_account) number
+          (gathered_owed numbers_of s.views id other own others different at_id at_other number (there_owed s.views number (told.holders source number near holds)));
       accounts = λ view index all account is_view. gathered_account view index all account (lies s.views id other (others ++ own) view all is_view);
       apart = λ view one two all a b is_view. gathered_apart view one two all a b (lies s.views id other (others ++ own) view all is_view);
     },
     refl,
   )
-
-at_back : {X : Type 0} (xs ys : List X) (at : ℕ) (x : X) → get_elem? ys at ≡ slot.some x → get_elem? (xs ++ ys) (length xs + at) ≡ slot.some x
-at_back [] ys at x is = subst (λ (k : ℕ). get_elem? ys k ≡ slot.some x) (let same : at ≡ 0 + at = omega arith in same) is
-at_back (first ∷ xs) ys at x is = subst (λ (k : ℕ). get_elem? (first ∷ xs ++ ys) k ≡ slot.some x) (let same : suc (length xs + at) ≡ suc (length xs) + at = omega arith in same) (at_back xs ys at x is)
-
--- what somebody has to do somebody has to do after the join
-module _ (owed : Account → List ℕ) (views : List (List Account)) (id other : ℕ) (own others : List Account) (different : other ≢ id) (at_id : get_elem? views id ≡ slot.some own) (at_other : get_elem? views other ≡ slot.some others) where
-  owed_there : (index what : ℕ) (account : Account) → get_elem? (others ++ own) index ≡ slot.some account → is_among what (owed account) ≡ true → IsOwed owed (set (set views id (others ++ own)) other no_account) what
-  owed_there index what account is owes = record {
-    view = id;
-    at = index;
-    all = others ++ own;
-    account = account;
-    is_view = set_else (set views id (others ++ own)) other id no_account (λ same. different (sym same)) ∙ set_here views id (others ++ own) (within views id own at_id);
-    is_account = is;
-    owes = owes;
-  }
-
-  gathered_owed : (what : ℕ) → IsOwed owed views what → IsOwed owed (set (set views id (others ++ own)) other no_account) what
-  gathered_owed what was = dite (ℕ_discrete was.view id)
-      (λ same.
-      let all_is : own ≡ was.all = some-injective own was.all (sym at_id ∙ ap (get_elem? views) (sym same) ∙ was.is_view) in
-      owed_there (length others + was.at) what was.account (at_back others own was.at was.account (subst (λ (l : List Account). get_elem? l was.at ≡ slot.some was.account) (sym all_is) was.is_account)) was.owes)
-      (λ not_id. dite (ℕ_discrete was.view other)
-      (λ same.
-      let all_is : others ≡ was.all = some-injective others was.all (sym at_other ∙ ap (get_elem? views) (sym same) ∙ was.is_view) in
-      owed_there was.at what was.account (at_longer others own was.at was.account (subst (λ (l : List Account). get_elem? l was.at ≡ slot.some was.account) (sym all_is) was.is_account)) was.owes)
-      (λ not_other. record {
-        view = was.view;
-        at = was.at;
-        all = was.all;
-        account = was.account;
-        is_view = set_else (set views id (others ++ own)) other was.view no_account not_other ∙ set_else views id was.view (others ++ own) not_id ∙ was.is_view;
-        is_account = was.is_account;
-        owes = was.owes;
-      }))
 
 module _ {V : Type 0} (plan_of : V → SourcePlan) (history_of : V → List Entry) (layout : Layout) where
   gathered_whole : (s : State (Option V) (List Account)) (told : Whole plan_of history_of layout s) (id other : ℕ) (own others : List Account) → other ≢ id → get_elem? s.views id ≡ slot.some own → get_elem? s.views other ≡ slot.some others →

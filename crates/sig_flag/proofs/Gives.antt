@@ -163,7 +163,7 @@ module _ {V : Type 0} (plan_of : V → SourcePlan) (history_of : V → List Entr
       let keep : (leaf : ℕ) → leaf < length layout.leaves → Keeps layout s.words after s.views views told.turns.history later leaf =
       λ leaf here. keeps_apart plan_of history_of layout s told id old new at source word later leaf (λ same. absurd (omega arith)) (λ same. absurd (omega arith)) (λ owes. owes)
       (λ owes. among_front leaf old.rings (rings_for layout.leaves old source history) owes) (version leaf here) in
-      told_after plan_of history_of layout s told id old new at source word (set s.homes source (slot.some (Some state))) later
+      told_after plan_of history_of layout s told id old new at source word (set s.homes source (slot.some (Some state))) later (λ beyond. absurd (omega arith))
       (give_rule plan_of history_of layout.plans layout.seats layout.leaves s told.turns id source count closed word old state within has_slot at turn may is)
       (λ leaf here. inr (keep leaf here))
       (still_watching layout s.words after s.views views told.turns.history later old new refl refl refl keep mine)

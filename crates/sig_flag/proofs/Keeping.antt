@@ -1,11 +1,14 @@
 -- What a step keeps of what is certain of leaves.
-use Rattle.std.proofs.Common.{◌≡◌, ◌∙◌, ℕ, ◌<◌, ◌≤◌, ◌≢◌, ◌⊎◌, ⊎_elim, inl, inr, List, [], ◌∷◌, length, slice_index, set, true, Option, refl, sym, ap, subst}
-use Rattle.std.proofs.lemmas.List.{get_or-set_other, length-set}
+use Rattle.std.proofs.Common.{◌≡◌, ◌∙◌, ℕ, ◌<◌, ◌≤◌, ◌≢◌, ◌⊎◌, ⊎_elim, inl, inr, List, [], ◌∷◌, length, slice_index, set, true, Option, refl, sym, ap, subst, arith}
+use Rattle.std.proofs.lemmas.List.{get_or-set_same, get_or-set_other, length-set}
+use mathlib.Core.Logic.{dite}
 use mathlib.Core.Option as slot
+use native.Mathlib.Decide.{ℕ_discrete}
 use lib.ListN.{get_elem?}
 use Rattle.atomic_table.specs.Table.{State}
 use Rattle.sig_flag.proofs.Owing.{still_owed, owed_now}
-use Rattle.sig_flag.proofs.Stepping.{Turned, found}
+use Rattle.sig_flag.proofs.Stepping.{Turned}
+use Rattle.sig_flag.proofs.Views.{found}
 use Rattle.sig_flag.specs.Accounts.{watch, hold}
 use Rattle.sig_flag.specs.Layouts.{Layout, leaf_at, bell_of, ready_of, words_of, poller_of}
 use Rattle.sig_flag.specs.Told.{IsOwed, IsStirred, IsSet, IsUpTo, IsWatched, IsWatching, version_at, Told}
@@ -66,18 +69,22 @@ module _ {V : Type 0} (plan_of : V → SourcePlan) (history_of : V → List Entr
 
   module _ (s : State (Option V) (List Account)) (told : Whole s) (id : ℕ) (old new : Account) (at : get_elem? s.views id ≡ slot.some (old ∷ [])) where
     -- the leaves of all others are as they were: they keep all, or the seat itself polls them
-    pub told_after : (word value : ℕ) (homes : List (slot.Option (Option V))) (later : ℕ → List Entry) →
+    pub told_after : (word value : ℕ) (homes : List (slot.Option (Option V))) (later : ℕ → List Entry) → (length layout.plans ≤ word → value ≤ 1) →
         Turned plan_of history_of layout.plans layout.seats (record { words = set s.words word value; homes = homes; views = set s.views id (new ∷ []) }) later →
         ((leaf : ℕ) → leaf < length layout.leaves → (old.number ≡ poller_of layout leaf) ⊎ Keeps layout s.words (set s.words word value) s.views (set s.views id (new ∷ [])) told.turns.history later leaf) →
         IsWatching layout (set s.words word value) (set s.views id (new ∷ [])) later new →
         Whole (record { words = set s.words word value; homes = homes; views = set s.views id (new ∷ []) })
-    told_after word value homes later turned keeps own =
+    told_after word value homes later bit turned keeps own =
         let after = set s.words word value in
         let seen = set s.views id (new ∷ []) in
         let mine = told.turns.accounts id 0 (old ∷ []) old at refl in
         record {
           turns = turned.0;
           wide = subst (λ (n : ℕ). words_of layout ≤ n) (sym (length-set s.words word value)) told.wide;
+          bits = λ place beyond near. dite (ℕ_discrete place word)
+              (λ same. subst (λ (k : ℕ). slice_index after k ≤ 1) (sym same)
+              (subst (λ (n : ℕ). n ≤ 1) (sym (get_or-set_same s.words word value 0 (omega (arith, told.wide)))) (bit (omega arith))))
+              (λ other. subst (λ (n : ℕ). n ≤ 1) (sym (get_or-set_other s.words word place value 0 other)) (told.bits place beyond near));
           watching = λ view index all account is_view is_account. subst (λ (h : ℕ → List Entry). IsWatching layout after seen h account) (sym turned.1) (⊎_elim
               (λ here. subst (IsWatching layout after seen later) here.2 own)
               (λ kept.
@@ -139,6 +146,7 @@ module _ {V : Type 0} (plan_of : V → SourcePlan) (history_of : V → List Entr
       record {
         turns = turned.0;
         wide = told.wide;
+        bits = told.bits;
         watching = λ view index all account is_view is_account.
             subst (λ (h : ℕ → List Entry). IsWatching layout s.words seen h account) (sym turned.1)
             (still_watching layout s.words s.words s.views seen history history account account refl refl refl keep (was view index all account is_view is_account));

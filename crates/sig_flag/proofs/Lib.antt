@@ -15,4 +15,5 @@ mod Rings
 mod Shown
 mod Stepping
 mod Takes
+mod Views
 mod Watching

@@ -14,11 +14,12 @@ use Rattle.sig_flag.specs.Layouts.{Layout, leaf_at}
 use Rattle.sig_flag.specs.Machines.{IsShown}
 use Rattle.sig_flag.specs.Plays.{Seated, IsLook, IsLastLook}
 use Rattle.sig_flag.specs.Told.{IsWatching, version_at}
-use Rattle.sig_flag.specs.Turns.{IsKnown}
+use Rattle.sig_flag.specs.Turns.{IsHistory, IsKnown}
 use Rattle.sig_flag.specs.Words.{version_in}
 use Rattle.sig_flag.specs.declared.accounts.Account.{Account}
 use Rattle.sig_flag.specs.declared.accounts.Knowledge.{Knowledge}
 use Rattle.sig_flag.specs.declared.shape.LeafPlan.{LeafPlan}
+use Rattle.sig_hist.proofs.Staying.{closed_is_whole}
 use Rattle.sig_hist.specs.Histories.{is_closed}
 use Rattle.sig_hist.specs.Plain.{version_of}
 use Rattle.sig_hist.specs.Ports.{is_news, put}
@@ -27,10 +28,12 @@ use Rattle.sig_hist.specs.declared.edits.Entry.{Entry}
 use Rattle.sig_hist.specs.declared.plans.SourcePlan.{SourcePlan}
 use Rattle.sig_hist.specs.declared.ports.Version.{Version}
 
-shown : (number : ℕ) (plan : SourcePlan) (history : List Entry) (knowledge : Knowledge) (word : ℕ) → IsKnown number plan history knowledge → Shows (length history) (is_closed (writers_of plan.allow) history) word →
-    IsShown knowledge (version_in word)
-shown number plan history knowledge word known shows = record {
+shown : (number : ℕ) (plan : SourcePlan) (history : List Entry) (knowledge : Knowledge) (word : ℕ) → IsHistory plan history → IsKnown number plan history knowledge →
+    Shows (length history) (is_closed (writers_of plan.allow) history) word → IsShown knowledge (version_in word)
+shown number plan history knowledge word legal known shows = record {
   count = omega arith;
+  room = rw (known.of_plan, shows.count) legal.of_source.room;
+  whole = λ closed. shows.count ∙ ap length (sym (closed_is_whole (record { plan = plan; history = history }) knowledge.seen legal.of_source known.front (rw known.of_plan at closed)));
   closed = λ all. let same = whole_front knowledge.seen history known.front (sym shows.count ∙ all) in rw (known.of_plan, same) shows.closed;
 }
 
@@ -81,7 +84,7 @@ module _ {V : Type 0} (plan_of : V → SourcePlan) (history_of : V → List Entr
       λ leaf here. keeps_apart plan_of history_of layout s told id old new at source (get_or s.words source 0) later leaf (λ same. absurd (omega arith)) (λ same. absurd (omega arith))
       (λ owes. rw tells owes) (λ owes. rw rings owes)
       (inl (ap (λ (h : List Entry). version_of (record { plan = plan_at layout.plans (leaf_at layout.leaves leaf).source; history = h })) (same (leaf_at layout.leaves leaf).source))) in
-      told_after plan_of history_of layout s told id old new at source (get_or s.words source 0) s.homes later
+      told_after plan_of history_of layout s told id old new at source (get_or s.words source 0) s.homes later (λ beyond. absurd (omega arith))
       (look_rule plan_of history_of layout.plans layout.seats layout.leaves s told.turns id source version old new within at (ap (λ (v : Version). v.count) is) number knows turn)
       (λ leaf here. inr (keep leaf here))
       (watching after seen later
@@ -108,7 +111,7 @@ module _ {V : Type 0} (plan_of : V → SourcePlan) (history_of : V → List Entr
           record {
             short = omega (arith, shows.count, legal.of_source.room, legal.of_source.plan.room);
             has = refl;
-            shown = shown old.number (plan_at layout.plans source) (told.turns.history source) (known old source) _ (mine.knows source within) shows;
+            shown = shown old.number (plan_at layout.plans source) (told.turns.history source) (known old source) _ legal (mine.knows source within) shows;
           },
         )
 
@@ -141,7 +144,7 @@ module _ {V : Type 0} (plan_of : V → SourcePlan) (history_of : V → List Entr
           record {
             short = omega (arith, shows.count, legal.of_source.room, legal.of_source.plan.room);
             has = refl;
-            shown = shown old.number (plan_at layout.plans source) (told.turns.history source) (known old source) _ (mine.knows source within) shows;
+            shown = shown old.number (plan_at layout.plans source) (told.turns.history source) (known old source) _ legal (mine.knows source within) shows;
           },
         )
 

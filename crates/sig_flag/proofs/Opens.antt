@@ -1,6 +1,6 @@
 -- The told rule holds at the start.
-use Rattle.std.proofs.Common.{◌≡◌, ◌∙◌, ℕ, zero, suc, ◌+◌, ◌<◌, List, [], ◌∷◌, ◌++◌, length, map, replicate, get_or, Bool, Option, None, Some, All, refl, sym, ap, subst, append_assoc, arith}
-use Rattle.std.proofs.lemmas.List.{length-map, length-append, length-replicate, get_or_append_left}
+use Rattle.std.proofs.Common.{◌≡◌, ◌∙◌, ℕ, zero, suc, ◌+◌, ◌-◌, ◌<◌, ◌≤◌, List, [], ◌∷◌, ◌++◌, length, map, replicate, get_or, Bool, Option, None, Some, All, refl, sym, ap, subst, append_assoc, arith}
+use Rattle.std.proofs.lemmas.List.{length-map, length-append, length-replicate, get_or_append_left, get_or-append_right}
 use Rattle.std.proofs.lemmas.List.Elements.{All-head, All-tail}
 use Rattle.std.proofs.Math.ListN.{get_or-map}
 use mathlib.Core.Option as slot
@@ -69,6 +69,22 @@ first_view layout zero at all account is_view is_account =
     let from_zero = numbered layout 0 layout.seats at account (subst (λ (l : List Account). get_elem? l at ≡ slot.some account) (sym (some-injective (opening_accounts layout) all is_view)) is_account) in
     (refl, subst (λ (n : ℕ). IsNumbered layout n layout.seats at account) (let same : 0 + at ≡ at = omega arith in same) from_zero)
 
+-- ---- words
+
+ready_bit : (tasks at : ℕ) → get_or (replicate tasks 1) at 0 ≤ 1
+ready_bit zero at = omega arith
+ready_bit (suc tasks) zero = omega arith
+ready_bit (suc tasks) (suc at) = ready_bit tasks at
+
+bell_bit : (leaves tasks at : ℕ) → get_or (replicate leaves 0 ++ replicate tasks 1) at 0 ≤ 1
+bell_bit zero tasks at = ready_bit tasks at
+bell_bit (suc leaves) tasks zero = omega arith
+bell_bit (suc leaves) tasks (suc at) = bell_bit leaves tasks at
+
+opening_bit : (sources : List ℕ) (leaves tasks place : ℕ) → length sources ≤ place → get_or (sources ++ (replicate leaves 0 ++ replicate tasks 1)) place 0 ≤ 1
+opening_bit sources leaves tasks place beyond =
+    subst (λ (n : ℕ). n ≤ 1) (sym (get_or-append_right sources (replicate leaves 0 ++ replicate tasks 1) (length sources) place 0 refl beyond)) (bell_bit leaves tasks (place - length sources))
+
 -- ---- sources
 
 module _ {V : Type 0} (plan_of : V → SourcePlan) (history_of : V → List Entry) where
@@ -126,6 +142,7 @@ module _ {V : Type 0} (plan_of : V → SourcePlan) (history_of : V → List Entr
       let whole : Whole plan_of history_of layout (opening (sources ++ more) slots (opening_accounts layout)) = record {
         turns = turns;
         wide = omega (arith, length-append sources more, length-append {A = ℕ} (replicate (length shape.leaves) 0) (replicate (length shape.tasks) 1), length-replicate {A = ℕ} (length shape.leaves) 0, length-replicate {A = ℕ} (length shape.tasks) 1);
+        bits = λ place beyond near. opening_bit sources (length shape.leaves) (length shape.tasks) place (omega (arith, long));
         watching = λ view index all account is_view is_account.
             let found = first_view layout view index all account is_view is_account in
             subst (IsWatching layout (sources ++ more) (opening_accounts layout ∷ []) turns.history) found.1.same (opening_watching layout (sources ++ more) (opening_accounts layout ∷ []) turns.history index);

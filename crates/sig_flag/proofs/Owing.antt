@@ -8,10 +8,11 @@ use mathlib.Core.Option.{some-injective}
 use native.Mathlib.Decide.{ℕ_discrete}
 use lib.ListN.{get_elem?}
 use Rattle.atomic_table.proofs.Lists.{set_here, set_else}
-use Rattle.sig_flag.proofs.Stepping.{alone, within}
+use Rattle.sig_flag.proofs.Views.{alone, within}
 use Rattle.sig_flag.specs.Accounts.{leaves_on, struck}
 use Rattle.sig_flag.specs.Layouts.{leaf_at}
 use Rattle.sig_flag.specs.Told.{IsOwed}
+use Rattle.sig_flag.specs.Turns.{IsThere}
 use Rattle.sig_flag.specs.declared.accounts.Account.{Account}
 use Rattle.sig_flag.specs.declared.shape.LeafPlan.{LeafPlan}
 use Rattle.sig_hist.specs.Sources.{is_among}
@@ -78,3 +79,39 @@ module _ (owed : Account → List ℕ) (views : List (List Account)) (id : ℕ) 
       let one = alone old was.account was.at (subst (λ (l : List Account). get_elem? l was.at ≡ slot.some was.account) (sym all_is) was.is_account) in
       owed_now (keeps (subst (λ (a : Account). is_among what (owed a) ≡ true) (sym one.1) was.owes)))
       (λ other. record { view = was.view; at = was.at; all = was.all; account = was.account; is_view = set_else views id was.view (new ∷ []) other ∙ was.is_view; is_account = was.is_account; owes = was.owes })
+
+-- ---- whose accounts are there
+
+-- an account's number, as what it owes
+abbrev pub numbers_of : Account → List ℕ
+numbers_of account = account.number ∷ []
+
+or_none : (test : Bool) → (test || false) ≡ true → test ≡ true
+or_none true is = refl
+or_none false is = is
+
+pub there_owed : (views : List (List Account)) (number : ℕ) → IsThere views number → IsOwed numbers_of views number
+there_owed views number was = record {
+  view = was.view;
+  at = was.at;
+  all = was.all;
+  account = was.account;
+  is_view = was.is_view;
+  is_account = was.is_account;
+  owes = subst (λ (n : ℕ). is_among n (was.account.number ∷ []) ≡ true) was.of_number (among_one was.account.number);
+}
+
+pub is_there : (views : List (List Account)) (number : ℕ) → IsOwed numbers_of views number → IsThere views number
+is_there views number was = record {
+  view = was.view;
+  at = was.at;
+  all = was.all;
+  account = was.account;
+  is_view = was.is_view;
+  is_account = was.is_account;
+  of_number = eqb-true was.account.number number (or_none (was.account.number == number) was.owes);
+}
+
+pub still_there : (views : List (List Account)) (id : ℕ) (old new : Account) (number : ℕ) → get_elem? views id ≡ slot.some (old ∷ []) → new.number ≡ old.number → IsThere views number → IsThere (set views id (new ∷ [])) number
+still_there views id old new number at same was =
+    is_there (set views id (new ∷ [])) number (still_owed numbers_of views id old new number at (λ among. subst (λ (n : ℕ). is_among number (n ∷ []) ≡ true) (sym same) among) (there_owed views number was))

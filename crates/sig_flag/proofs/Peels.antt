@@ -11,7 +11,9 @@ use Rattle.atomic_table.specs.Table.{State, Splits}
 use Rattle.atomic_table.specs.declared.shared.Seat.{Seat}
 use Rattle.atomic_table.proofs.Lists.{at_set, set_here, set_else, at_longer, at_last}
 use Rattle.sig_flag.proofs.Keeping.{Whole, rings_of, tells_of, moved}
-use Rattle.sig_flag.proofs.Stepping.{Rule, Turned, alone, put_here, put_else, within}
+use Rattle.sig_flag.proofs.Owing.{numbers_of, there_owed, is_there}
+use Rattle.sig_flag.proofs.Stepping.{Rule, Turned, put_here, put_else}
+use Rattle.sig_flag.proofs.Views.{alone, within}
 use Rattle.sig_flag.specs.Accounts.{accounts_from, opening_account}
 use Rattle.sig_flag.specs.Layouts.{Layout}
 use Rattle.sig_flag.specs.Machines.{Has}
@@ -48,6 +50,43 @@ lies views id first others view all is = ⊎_elim
     (λ before. ⊎_elim (λ own. at_left own.0 own.1) (λ other. elsewhere other.0 other.1) (at_set views id view others all before))
     (λ last. fresh (last.0 ∙ length-set views id others) last.1)
     (at_end (set views id others) (first ∷ []) all view is)
+
+-- what somebody has to do somebody has to do after the split
+module _ (owed : Account → List ℕ) (views : List (List Account)) (id : ℕ) (first : Account) (others : List Account) (at : get_elem? views id ≡ slot.some (first ∷ others)) where
+  owed_here : (index what : ℕ) (account : Account) → get_elem? (first ∷ others) index ≡ slot.some account → is_among what (owed account) ≡ true → IsOwed owed (set views id others ++ (first ∷ []) ∷ []) what
+  owed_here zero what account is owes = record {
+    view = length views;
+    at = 0;
+    all = first ∷ [];
+    account = first;
+    is_view = at_last (set views id others) (first ∷ []) (length views) (length-set views id others);
+    is_account = refl;
+    owes = subst (λ (a : Account). is_among what (owed a) ≡ true) (sym (some-injective first account is)) owes;
+  }
+  owed_here (suc index) what account is owes = record {
+    view = id;
+    at = index;
+    all = others;
+    account = account;
+    is_view = at_longer (set views id others) ((first ∷ []) ∷ []) id others (set_here views id others (within views id (first ∷ others) at));
+    is_account = is;
+    owes = owes;
+  }
+
+  peeled_owed : (what : ℕ) → IsOwed owed views what → IsOwed owed (set views id others ++ (first ∷ []) ∷ []) what
+  peeled_owed what was = dite (ℕ_discrete was.view id)
+      (λ same.
+      let all_is : (first ∷ others) ≡ was.all = some-injective (first ∷ others) was.all (sym at ∙ ap (get_elem? views) (sym same) ∙ was.is_view) in
+      owed_here was.at what was.account (subst (λ (l : List Account). get_elem? l was.at ≡ slot.some was.account) (sym all_is) was.is_account) was.owes)
+      (λ other. record {
+        view = was.view;
+        at = was.at;
+        all = was.all;
+        account = was.account;
+        is_view = at_longer (set views id others) ((first ∷ []) ∷ []) was.view was.all (set_else views id was.view others other ∙ was.is_view);
+        is_account = was.is_account;
+        owes = was.owes;
+      })
 
 module _ {V : Type 0} (plan_of : V → SourcePlan) (history_of : V → List Entry) (plans : List SourcePlan) (seats : ℕ) (s : State (Option V) (List Account)) (told : Rule plan_of history_of plans seats s) (id : ℕ) (first : Account) (others : List Account)
     (at : get_elem? s.views id ≡ slot.some (first ∷ others)) where
@@ -92,49 +131,12 @@ module _ {V : Type 0} (plan_of : V → SourcePlan) (history_of : V → List Entr
       wide = told.wide;
       sources = told.sources;
       turns = told.turns;
-      holders = told.holders;
+      holders = λ source number near holds. is_there (set s.views id others ++ (first ∷ []) ∷ []) number (peeled_owed numbers_of s.views id first others at number (there_owed s.views number (told.holders source number near holds)));
       accounts = λ view index all account is_view. peeled_account view index all account (lies s.views id first others view all is_view);
       apart = λ view one other all a b is_view. peeled_apart view one other all a b (lies s.views id first others view all is_view);
     },
     refl,
   )
-
--- what somebody has to do somebody has to do after the split
-module _ (owed : Account → List ℕ) (views : List (List Account)) (id : ℕ) (first : Account) (others : List Account) (at : get_elem? views id ≡ slot.some (first ∷ others)) where
-  owed_here : (index what : ℕ) (account : Account) → get_elem? (first ∷ others) index ≡ slot.some account → is_among what (owed account) ≡ true → IsOwed owed (set views id others ++ (first ∷ []) ∷ []) what
-  owed_here zero what account is owes = record {
-    view = length views;
-    at = 0;
-    all = first ∷ [];
-    account = first;
-    is_view = at_last (set views id others) (first ∷ []) (length views) (length-set views id others);
-    is_account = refl;
-    owes = subst (λ (a : Account). is_among what (owed a) ≡ true) (sym (some-injective first account is)) owes;
-  }
-  owed_here (suc index) what account is owes = record {
-    view = id;
-    at = index;
-    all = others;
-    account = account;
-    is_view = at_longer (set views id others) ((first ∷ []) ∷ []) id others (set_here views id others (within views id (first ∷ others) at));
-    is_account = is;
-    owes = owes;
-  }
-
-  peeled_owed : (what : ℕ) → IsOwed owed views what → IsOwed owed (set views id others ++ (first ∷ []) ∷ []) what
-  peeled_owed what was = dite (ℕ_discrete was.view id)
-      (λ same.
-      let all_is : (first ∷ others) ≡ was.all = some-injective (first ∷ others) was.all (sym at ∙ ap (get_elem? views) (sym same) ∙ was.is_view) in
-      owed_here was.at what was.account (subst (λ (l : List Account). get_elem? l was.at ≡ slot.some was.account) (sym all_is) was.is_account) was.owes)
-      (λ other. record {
-        view = was.view;
-        at = was.at;
-        all = was.all;
-        account = was.account;
-        is_view = at_longer (set views id others) ((first ∷ []) ∷ []) was.view was.all (set_else views id was.view others other ∙ was.is_view);
-        is_account = was.is_account;
-        owes = was.owes;
-      })
 
 module _ {V : Type 0} (plan_of : V → SourcePlan) (history_of : V → List Entry) (layout : Layout) where
   peeled_whole : (s : State (Option V) (List Account)) (told : Whole plan_of history_of layout s) (id : ℕ) (first : Account) (others : List Account) → get_elem? s.views id ≡ slot.some (first ∷ others) →

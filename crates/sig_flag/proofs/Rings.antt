@@ -48,7 +48,7 @@ module _ {V : Type 0} (plan_of : V → SourcePlan) (history_of : V → List Entr
         let after = set s.words (bell_of layout leaf) 1 in
         let seen = set s.views id (new ∷ []) in
         let keep = λ (other : ℕ) (near : other < length layout.leaves). armed_keeps leaf other polled.within near in
-        told_after plan_of history_of layout s told id old new at (bell_of layout leaf) 1 s.homes told.turns.history
+        told_after plan_of history_of layout s told id old new at (bell_of layout leaf) 1 s.homes told.turns.history (λ _. omega arith)
         (aside_rule plan_of history_of layout.plans layout.seats s told.turns id (bell_of layout leaf) 1 old new (omega arith) at refl refl refl)
         (λ other near. inr (keep other near))
         (arm_watching layout after seen told.turns.history old leaf polled.within polled.poller (inl (get_or-set_same s.words (bell_of layout leaf) 1 0 (let within = polled.within in omega (arith, told.wide))))
@@ -88,7 +88,7 @@ module _ {V : Type 0} (plan_of : V → SourcePlan) (history_of : V → List Entr
     rung_whole leaf was_set is within =
         let new = after_ring layout.leaves old leaf was_set in
         let keep = λ (other : ℕ) (near : other < length layout.leaves). rung_keeps leaf other was_set is within near in
-        told_after plan_of history_of layout s told id old new at (bell_of layout leaf) 0 s.homes told.turns.history
+        told_after plan_of history_of layout s told id old new at (bell_of layout leaf) 0 s.homes told.turns.history (λ _. omega arith)
         (aside_rule plan_of history_of layout.plans layout.seats s told.turns id (bell_of layout leaf) 0 old new (omega arith) at refl refl refl)
         (λ other near. inr (keep other near))
         (still_watching layout s.words (set s.words (bell_of layout leaf) 0) s.views (set s.views id (new ∷ [])) told.turns.history told.turns.history old new refl refl refl keep (told.watching id 0 (old ∷ []) old at refl))
@@ -111,7 +111,7 @@ module _ {V : Type 0} (plan_of : V → SourcePlan) (history_of : V → List Entr
     told_whole task within =
         let new = after_tell old task in
         let keep = λ (other : ℕ) (near : other < length layout.leaves). told_keeps task other within near in
-        told_after plan_of history_of layout s told id old new at (ready_of layout task) 1 s.homes told.turns.history
+        told_after plan_of history_of layout s told id old new at (ready_of layout task) 1 s.homes told.turns.history (λ _. omega arith)
         (aside_rule plan_of history_of layout.plans layout.seats s told.turns id (ready_of layout task) 1 old new (omega arith) at refl refl refl)
         (λ other near. inr (keep other near))
         (still_watching layout s.words (set s.words (ready_of layout task) 1) s.views (set s.views id (new ∷ [])) told.turns.history told.turns.history old new refl refl refl keep (told.watching id 0 (old ∷ []) old at refl))
@@ -148,7 +148,7 @@ module _ {V : Type 0} (plan_of : V → SourcePlan) (history_of : V → List Entr
         let new = after_collect layout.leaves old task true in
         let mine = told.watching id 0 (old ∷ []) old at refl in
         let apart = λ (leaf : ℕ) (near : leaf < length layout.leaves) (different : task_of layout leaf ≢ task). collected_keeps task leaf true polled.within near (inl different) in
-        told_after plan_of history_of layout s told id old new at (ready_of layout task) 0 s.homes told.turns.history
+        told_after plan_of history_of layout s told id old new at (ready_of layout task) 0 s.homes told.turns.history (λ _. omega arith)
         (aside_rule plan_of history_of layout.plans layout.seats s told.turns id (ready_of layout task) 0 old new (omega arith) at refl refl refl)
         (λ leaf near. dite (ℕ_discrete (task_of layout leaf) task) (λ same. inl (polled.poller ∙ ap (λ (k : ℕ). get_or layout.pollers k 0) (sym same))) (λ different. inr (apart leaf near different)))
         (told_watching layout (set s.words (ready_of layout task) 0) (set s.views id (new ∷ [])) told.turns.history s.words s.views told.turns.history old task (let within = polled.within in omega (arith, mine.holds)) mine
@@ -160,7 +160,7 @@ module _ {V : Type 0} (plan_of : V → SourcePlan) (history_of : V → List Entr
         let seen = set s.views id (new ∷ []) in
         let not_one : get_or s.words (ready_of layout task) 0 ≢ 1 = λ one. absurd (let same = eq-eqb (get_or s.words (ready_of layout task) 0) 1 one in cc) in
         let keep = λ (leaf : ℕ) (near : leaf < length layout.leaves). collected_keeps task leaf false polled.within near (inr not_one) in
-        told_after plan_of history_of layout s told id old new at (ready_of layout task) 0 s.homes told.turns.history
+        told_after plan_of history_of layout s told id old new at (ready_of layout task) 0 s.homes told.turns.history (λ _. omega arith)
         (aside_rule plan_of history_of layout.plans layout.seats s told.turns id (ready_of layout task) 0 old new (omega arith) at refl refl refl)
         (λ leaf near. inr (keep leaf near))
         (missed_watching layout after seen told.turns.history old task (still_watching layout s.words after s.views seen told.turns.history told.turns.history old old refl refl refl keep (told.watching id 0 (old ∷ []) old at refl)))

@@ -3,14 +3,14 @@ use Rattle.std.proofs.Common.{◌≡◌, ◌∙◌, ℕ, zero, suc, ◌<◌, ◌
 use Rattle.std.proofs.lemmas.List.{get_or-set_same, get_or-set_other, length-set}
 use mathlib.Core.Logic.{dite}
 use mathlib.Core.Option as slot
-use mathlib.Core.Option.{some-injective, some-ne-none}
 use native.Mathlib.Decide.{ℕ_discrete}
 use lib.ListN.{get_elem?}
 use Rattle.atomic_table.specs.Table.{State}
-use Rattle.atomic_table.proofs.Lists.{at_set}
 use Rattle.sig_flag.proofs.Fronts.{still_known, front_of_itself}
+use Rattle.sig_flag.proofs.Owing.{still_there}
+use Rattle.sig_flag.proofs.Views.{found}
 use Rattle.sig_flag.specs.Accounts.{plan_at, known, knowing}
-use Rattle.sig_flag.specs.Turns.{IsHistory, IsKnown, IsTurn, IsAccount, HasTurns}
+use Rattle.sig_flag.specs.Turns.{IsHistory, IsKnown, IsTurn, IsAccount, IsThere, HasTurns}
 use Rattle.sig_flag.specs.declared.accounts.Account.{Account}
 use Rattle.sig_flag.specs.declared.accounts.Knowledge.{Knowledge}
 use Rattle.sig_hist.specs.Histories.{IsFront, own_entries}
@@ -109,24 +109,6 @@ module _ (plans : List SourcePlan) (seats : ℕ) (history : ℕ → List Entry) 
 
 -- ---- the rule
 
-pub within : {X : Type 0} (xs : List X) (at : ℕ) (x : X) → get_elem? xs at ≡ slot.some x → at < length xs
-within [] at x is = absurd (some-ne-none x (sym is))
-within (first ∷ xs) zero x is = omega arith
-within (first ∷ xs) (suc at) x is = let later = within xs at x is in omega arith
-
-pub alone : (account found : Account) (at : ℕ) → get_elem? (account ∷ []) at ≡ slot.some found → (at ≡ 0) × (account ≡ found)
-alone account found zero is = (refl, some-injective account found is)
-alone account found (suc at) is = absurd (some-ne-none found (sym is))
-
--- an account of the views after a step is the seat's own, or lies where it lay
-pub found : (views : List (List Account)) (id : ℕ) (new : Account) (view at : ℕ) (all : List Account) (account : Account) → get_elem? (set views id (new ∷ [])) view ≡ slot.some all → get_elem? all at ≡ slot.some account →
-    ((view ≡ id) × (at ≡ 0) × (new ≡ account)) ⊎ ((view ≢ id) × (get_elem? views view ≡ slot.some all))
-found views id new view at all account is_view is_account =
-    ⊎_elim
-    (λ same. let one = alone new account at (subst (λ (l : List Account). get_elem? l at ≡ slot.some account) (sym same.1) is_account) in inl (same.0, one.0, one.1))
-    (λ other. inr other)
-    (at_set views id view (new ∷ []) all is_view)
-
 module _ {V : Type 0} (plan_of : V → SourcePlan) (history_of : V → List Entry) (plans : List SourcePlan) (seats : ℕ) where
   abbrev pub Rule : State (Option V) (List Account) → Type 0
   Rule = HasTurns plan_of history_of plans seats
@@ -140,9 +122,9 @@ module _ {V : Type 0} (plan_of : V → SourcePlan) (history_of : V → List Entr
       Passes old.number (told.history source) (told.holder source) after held → Changes plans seats told.history told.holder told.place source after held old new →
       IsHistory (plan_at plans source) after → IsTurn plan_of history_of (plan_at plans source) after held word (get_or homes source slot.none) →
       ((k : ℕ) → k ≢ source → get_or homes k slot.none ≡ get_or s.homes k slot.none) →
-      ((number : ℕ) → held ≡ Some number → number < seats) →
+      ((number : ℕ) → held ≡ Some number → IsThere s.views number) →
       Turned (record { words = set s.words source word; homes = homes; views = set s.views id (new ∷ []) }) (put told.history source after)
-  stepped_rule s told id source old new after held word homes within at passes changes legal turn other_homes holder_seat =
+  stepped_rule s told id source old new after held word homes within at passes changes legal turn other_homes holder_there =
       let mine = told.accounts id 0 (old ∷ []) old at refl in
       let histories = put told.history source after in
       let holders = put told.holder source held in
@@ -156,8 +138,9 @@ module _ {V : Type 0} (plan_of : V → SourcePlan) (history_of : V → List Entr
           turns = by_place (λ k entries who. k < length plans → IsTurn plan_of history_of (plan_at plans k) entries who (get_or (set s.words source word) k 0) (get_or homes k slot.none)) told.history told.holder source after held
               (λ _. subst (λ (w : ℕ). IsTurn plan_of history_of (plan_at plans source) after held w (get_or homes source slot.none)) (sym (get_or-set_same s.words source word 0 wide)) turn)
               (λ k other near. rw (get_or-set_other s.words source k word 0 other, other_homes k other) (told.turns k near));
-          holders = λ k number near. by_place (λ k _ who. k < length plans → who ≡ Some number → number < seats) told.history told.holder source after held
-              (λ _. holder_seat number) (λ k _ near. told.holders k number near) k near;
+          holders = λ k number near holds. still_there s.views id old new number at changes.number
+              (by_place (λ k _ who. k < length plans → who ≡ Some number → IsThere s.views number) told.history told.holder source after held
+              (λ _. holder_there number) (λ k _ near. told.holders k number near) k near holds);
           accounts = λ view at all account is_view is_account. ⊎_elim
               (λ own. subst (λ (z : ℕ × Account). IsAccount plans seats histories holders told.place z.0 z.1) (λ i. (sym own.0 i, own.2 i))
               (own_account plans seats told.history told.holder told.place source after held id old new within mine changes))
@@ -188,7 +171,7 @@ module _ {V : Type 0} (plan_of : V → SourcePlan) (history_of : V → List Entr
   -- a step at a word that is no source's
   pub aside_rule : (s : State (Option V) (List Account)) (told : Rule s) (id at_word word : ℕ) (old new : Account) → length plans ≤ at_word → get_elem? s.views id ≡ slot.some (old ∷ []) →
       new.number ≡ old.number → new.knows ≡ old.knows → new.turn ≡ old.turn → Turned (record { words = set s.words at_word word; homes = s.homes; views = set s.views id (new ∷ []) }) told.history
-  aside_rule s told id at_word word old new beyond at number knows turn =
+  aside_rule s told id at_word word old new beyond at number_is knows turn =
       let mine = told.accounts id 0 (old ∷ []) old at refl in (
         record {
           history = told.history;
@@ -197,10 +180,10 @@ module _ {V : Type 0} (plan_of : V → SourcePlan) (history_of : V → List Entr
           wide = omega (arith, told.wide, length-set {A = ℕ});
           sources = told.sources;
           turns = λ source within. rw (get_or-set_other s.words at_word source word 0 (λ same. absurd (omega arith))) (told.turns source within);
-          holders = told.holders;
+          holders = λ source number within holds. still_there s.views id old new number at number_is (told.holders source number within holds);
           accounts = λ view index all account is_view is_account. ⊎_elim
               (λ own. subst (λ (z : ℕ × Account). IsAccount plans seats told.history told.holder told.place z.0 z.1) (λ i. (sym own.0 i, own.2 i))
-              (same_account told.history told.holder told.place id old new number knows turn mine))
+              (same_account told.history told.holder told.place id old new number_is knows turn mine))
               (λ kept. told.accounts view index all account kept.1 is_account)
               (found s.views id new view index all account is_view is_account);
           apart = λ view one other all a b is_view is_one is_other same. ⊎_elim

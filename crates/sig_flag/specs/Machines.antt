@@ -13,7 +13,7 @@ use Rattle.sig_flag.specs.declared.flags.Taken.TheVariants.{Turn, Held}
 use Rattle.sig_flag.specs.declared.shape.FlagShape.{FlagShape}
 use Rattle.sig_hist.specs.Histories.{IsFront, is_closed, own_entries}
 use Rattle.sig_hist.specs.Plain.{version_of}
-use Rattle.sig_hist.specs.Sources.{IsPlan, IsIn, IsSource, writers_of}
+use Rattle.sig_hist.specs.Sources.{IsPlan, IsIn, IsSource, room_of, writers_of}
 use Rattle.sig_hist.specs.declared.edits.Entry.{Entry}
 use Rattle.sig_hist.specs.declared.plans.SourcePlan.{SourcePlan}
 use Rattle.sig_hist.specs.declared.ports.Condition.TheVariants.{Waiting}
@@ -77,9 +77,12 @@ module _ {V : Type 0} where
   abbrev pub Has : Seat (Option V) (List Account) → Account → List (ℕ × Option V) → Type 0
   Has seat a slots = seat.me ≡ (a ∷ [], slots)
 
--- what a look may show: no fewer entries than before, and whether they are closed where all of them were seen
+-- what a look may show: no fewer entries than before and no more than there is room for, whether they are closed where all of them were seen, and
+-- no more than were seen where those are closed
 pub record IsShown (knowledge : Knowledge) (version : Version) : Type 0 where
   pub count : knowledge.count ≤ version.count
+  pub room : version.count ≤ room_of knowledge.plan.allow
+  pub whole : is_closed (writers_of knowledge.plan.allow) knowledge.seen ≡ true → version.count ≡ length knowledge.seen
   pub closed : version.count ≡ length knowledge.seen → version.closed ≡ is_closed (writers_of knowledge.plan.allow) knowledge.seen
 
 -- ---- bells

@@ -62,4 +62,6 @@ module _ (layout : Layout) (words : List ℕ) (views : List (List Account)) (his
 pub record Told {V : Type 0} (plan_of : V → SourcePlan) (history_of : V → List Entry) (layout : Layout) (s : State (Option V) (List Account)) : Type 0 where
   pub turns : HasTurns plan_of history_of layout.plans layout.seats s
   pub wide : words_of layout ≤ length s.words
+  -- bells and ready words are 0 or 1
+  pub bits : (place : ℕ) → length layout.plans ≤ place → place < words_of layout → slice_index s.words place ≤ 1
   pub watching : (view at : ℕ) (all : List Account) (account : Account) → get_elem? s.views view ≡ slot.some all → get_elem? all at ≡ slot.some account → IsWatching layout s.words s.views turns.history account

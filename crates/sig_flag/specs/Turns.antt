@@ -58,6 +58,16 @@ pub record IsAccount (plans : List SourcePlan) (seats : ℕ) (history : ℕ → 
   pub has_turn : (source : ℕ) → account.turn ≡ Some source → (source < length plans) × (holder source ≡ Some account.number) × ((known account source).seen ≡ history source)
   pub only : (source : ℕ) → source < length plans → holder source ≡ Some account.number → account.turn ≡ Some source
 
+-- some view has the account of a number
+pub record IsThere (views : List (List Account)) (number : ℕ) : Type 0 where
+  pub view : ℕ
+  pub at : ℕ
+  pub all : List Account
+  pub account : Account
+  pub is_view : get_elem? views view ≡ slot.some all
+  pub is_account : get_elem? all at ≡ slot.some account
+  pub of_number : account.number ≡ number
+
 pub record HasTurns {V : Type 0} (plan_of : V → SourcePlan) (history_of : V → List Entry) (plans : List SourcePlan) (seats : ℕ) (s : State (Option V) (List Account)) : Type 0 where
   -- of each source its history and who has its turn, and of each seat's number the view in which its account is
   pub history : ℕ → List Entry
@@ -66,6 +76,6 @@ pub record HasTurns {V : Type 0} (plan_of : V → SourcePlan) (history_of : V �
   pub wide : length plans ≤ length s.words
   pub sources : (source : ℕ) → source < length plans → IsHistory (plan_at plans source) (history source)
   pub turns : (source : ℕ) → source < length plans → IsTurn plan_of history_of (plan_at plans source) (history source) (holder source) (slice_index s.words source) (get_or s.homes source slot.none)
-  pub holders : (source number : ℕ) → source < length plans → holder source ≡ Some number → number < seats
+  pub holders : (source number : ℕ) → source < length plans → holder source ≡ Some number → IsThere s.views number
   pub accounts : (view at : ℕ) (all : List Account) (account : Account) → get_elem? s.views view ≡ slot.some all → get_elem? all at ≡ slot.some account → IsAccount plans seats history holder place view account
   pub apart : (view one other : ℕ) (all : List Account) (a b : Account) → get_elem? s.views view ≡ slot.some all → get_elem? all one ≡ slot.some a → get_elem? all other ≡ slot.some b → a.number ≡ b.number → one ≡ other

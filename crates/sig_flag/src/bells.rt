@@ -1,8 +1,9 @@
 //! The steps by which tasks come to be told that a source has an entry more.
-ghost use Rattle.std.specs.Prelude.{◌≡◌, ◌<◌, length};
+ghost use Rattle.std.specs.Prelude.{◌≡◌, ◌<◌, length, true};
 ghost use Rattle.sig_flag.specs.Accounts.{known, after_last_look, after_arm, after_ring, after_tell, after_collect};
 ghost use Rattle.sig_flag.specs.Layouts.{leaf_at, bell_of, ready_of};
 ghost use Rattle.sig_flag.specs.Machines.{account, Sits, IsSameSeat, Has, IsShown, IsPolledBy, IsTaskOf};
+ghost use Rattle.sig_hist.specs.Sources.{is_among};
 
 use crate::flags::{FlagSeat, Flags};
 use crate::plays::{Arm, Collect, Known, LastLook, Numbered, Ring, Tell};
@@ -38,6 +39,7 @@ impl<V: Kept> Flags<V> {
     pub fn ring(&self, seat: &mut FlagSeat<V>, leaf: usize) -> bool
         requires seat { Sits self.now seat.old }
         requires leaf { leaf < length self.now.layout.leaves }
+        requires owed { is_among leaf (account seat.old).rings ≡ true }
         ensures seat { IsSameSeat seat.old seat.new }
         ensures account { Has seat.new (after_ring self.now.layout.leaves (account seat.old) leaf result) seat.old.me.1 }
     {
@@ -48,6 +50,7 @@ impl<V: Kept> Flags<V> {
     pub fn tell(&self, seat: &mut FlagSeat<V>, task: usize)
         requires seat { Sits self.now seat.old }
         requires task { task < length self.now.layout.pollers }
+        requires owed { is_among task (account seat.old).tells ≡ true }
         ensures seat { IsSameSeat seat.old seat.new }
         ensures account { Has seat.new (after_tell (account seat.old) task) seat.old.me.1 }
     {
