@@ -1,5 +1,6 @@
 -- A seat rings the bells of a source's leaves one after another.
-use Rattle.std.proofs.Common.{◌≡◌, ◌∙◌, ℕ, suc, ◌+◌, ◌<◌, ◌≤◌, ◌==◌, List, [], ◌∷◌, ◌++◌, length, drop, cond, Bool, true, false, refl, ap, eq-eqb, arith}
+use Rattle.std.proofs.Common.{◌≡◌, ◌∙◌, ℕ, suc, ◌+◌, ◌<◌, ◌≤◌, ◌==◌, List, [], ◌∷◌, ◌++◌, length, drop, cond, Bool, true, false, refl, sym, ap, subst, eq-eqb, arith}
+use Rattle.std.proofs.lemmas.Bool.{or_left}
 use Rattle.std.proofs.Math.Seq.{drop-cons}
 use Rattle.std.proofs.lemmas.List.{drop_all}
 use Rattle.sig_flag.specs.Accounts.{known, after_give, leaves_on, struck}
@@ -7,7 +8,7 @@ use Rattle.sig_flag.specs.Layouts.{leaf_at, no_leaf}
 use Rattle.sig_flag.specs.Machines.{Machine, account, Has, Sits, IsSameSeat, OwesNothing}
 use Rattle.sig_flag.specs.declared.accounts.Account.{Account}
 use Rattle.sig_flag.specs.declared.shape.LeafPlan.{LeafPlan}
-use Rattle.sig_hist.specs.Sources.{Source}
+use Rattle.sig_hist.specs.Sources.{Source, is_among}
 use Rattle.sig_hub.proofs.InTurn.{Reads, reads, has_both, same_twice}
 use Rattle.sig_hub.specs.Turns.{PassSeat, HasGiven, HasRung, IsRinging}
 
@@ -47,17 +48,27 @@ module _ (machine : Machine) (source : ℕ) (old : PassSeat) (sits : Sits machin
       has = ringing.has ∙ ap (λ (all : List ℕ). (record (account old) { rings = all; tells = [] } ∷ [], old.me.1)) (on_more source from machine.layout.leaves more ∙ ap (λ (on : Bool). cond on (from ∷ leaves_on source (drop (from + 1) machine.layout.leaves) (from + 1)) (leaves_on source (drop (from + 1) machine.layout.leaves) (from + 1))) other);
     }
 
+    rings_here : from < length machine.layout.leaves → ((leaf_at machine.layout.leaves from).source == source) ≡ true → (account now).rings ≡ from ∷ leaves_on source (drop (from + 1) machine.layout.leaves) (from + 1)
+    rings_here more on =
+        let rest = leaves_on source (drop (from + 1) machine.layout.leaves) (from + 1) in
+        ap (λ (a : Account). a.rings) reading.is ∙ on_more source from machine.layout.leaves more ∙ ap (λ (on : Bool). cond on (from ∷ rest) rest) on
+
     -- a leaf on the source was rung
     pub rung_one : (new : PassSeat) → from < length machine.layout.leaves → ((leaf_at machine.layout.leaves from).source == source) ≡ true → IsSameSeat now new →
         Has new (record (account now) { rings = struck from (account now).rings; tells = [] }) now.me.1 → IsRinging machine.layout.leaves source (from + 1) old new
     rung_one new more on same has =
         let rest = leaves_on source (drop (from + 1) machine.layout.leaves) (from + 1) in
-        let rings_are : (account now).rings ≡ from ∷ rest = ap (λ (a : Account). a.rings) reading.is ∙ on_more source from machine.layout.leaves more ∙ ap (λ (on : Bool). cond on (from ∷ rest) rest) on in
-        let left : struck from (account now).rings ≡ rest = ap (struck from) rings_are ∙ struck_first from rest in
+        let left : struck from (account now).rings ≡ rest = ap (struck from) (rings_here more on) ∙ struck_first from rest in
         record {
           same = same_twice old now new ringing.same same;
           has = has ∙ (λ i. (record (reading.is i) { rings = left i; tells = [] } ∷ [], reading.slots_are i));
         }
+
+    -- a leaf on the source is the next to ring
+    pub rings_next : from < length machine.layout.leaves → ((leaf_at machine.layout.leaves from).source == source) ≡ true → is_among from (account now).rings ≡ true
+    rings_next more on =
+        let rest = leaves_on source (drop (from + 1) machine.layout.leaves) (from + 1) in
+        subst (λ (rings : List ℕ). is_among from rings ≡ true) (sym (rings_here more on)) (or_left (from == from) (is_among from rest) (eq-eqb from from refl))
 
     pub all_rung : length machine.layout.leaves ≤ from → HasRung old now
     all_rung past = record { same = ringing.same; has = ringing.has ∙ ap (λ (all : List ℕ). (record (account old) { rings = all; tells = [] } ∷ [], old.me.1)) (on_none source from machine.layout.leaves past) }

@@ -1,8 +1,8 @@
 //! The turn of a source: a seat waits for it, has the source's state meanwhile, and gives both back.
-ghost use Rattle.std.specs.Prelude.{◌≡◌, ◌<◌, [], length, None, Some};
+ghost use Rattle.std.specs.Prelude.{◌≡◌, ◌<◌, [], length, true, None, Some};
 ghost use Rattle.sig_flag.specs.Accounts.{after_give, leaves_on, struck};
 ghost use Rattle.sig_flag.specs.Machines.{account, Sits, IsSameSeat, Has, HasNoTurn, HasTurn, OwesNothing};
-ghost use Rattle.sig_hist.specs.Sources.{Source};
+ghost use Rattle.sig_hist.specs.Sources.{Source, is_among};
 ghost use Rattle.sig_hub.specs.Turns.{HasTaken, MayEnd, HasGiven, HasRung, IsNextRing, has_come};
 
 use crossbeam_utils::Backoff;
@@ -94,6 +94,7 @@ fn ring_all(flags: &HubFlags, seat: &mut HubSeat, source: usize)
 fn ring_one(flags: &HubFlags, seat: &mut HubSeat, leaf: usize, task: usize)
     requires seat { Sits flags.now seat.old }
     requires leaf { IsNextRing flags.now.layout leaf task }
+    requires owed { is_among leaf (account seat.old).rings ≡ true }
     requires tells { (account seat.old).tells ≡ [] }
     ensures seat { IsSameSeat seat.old seat.new }
     ensures has { Has seat.new (record (account seat.old) { rings = struck leaf (account seat.old).rings; tells = [] }) seat.old.me.1 }
