@@ -1,22 +1,25 @@
 -- Once all seats are back and none has a turn, each source's state is in its slot.
-use Rattle.std.proofs.Common.{◌≡◌, ◌∙◌, ℕ, zero, suc, ◌+◌, ◌<◌, ◌≤◌, ◌⊎◌, ⊎_elim, inl, inr, List, [], ◌∷◌, length, map, get_or, Bool, Option, None, Some, All, refl, sym, ap, subst, arith}
+use Rattle.std.proofs.Common.{◌≡◌, ◌∙◌, ℕ, zero, suc, ◌+◌, ◌<◌, ◌≤◌, ◌≢◌, ◌==◌, ◌⊎◌, ⊎_elim, inl, inr, List, [], ◌∷◌, length, map, get_or, slice_index, sum_by, Bool, Option, None, Some, All, refl, sym, ap, subst, eq-eqb, ne_eqb, arith}
 use Rattle.std.proofs.lemmas.List.{length-map, get_or-map}
 use Rattle.std.proofs.lemmas.Option.{slice_get_within}
+use mathlib.Core.Logic.{dite}
 use mathlib.Core.Option as slot
 use mathlib.Core.Option.{some-injective}
+use native.Mathlib.Decide.{ℕ_discrete}
 use lib.ListN.{get_elem?}
 use Rattle.atomic_table.specs.Seated.{TableId}
 use Rattle.atomic_table.specs.Table.{State, Final, Seen}
 use Rattle.atomic_table.specs.declared.shared.Seat.{Seat}
 use Rattle.sig_flag.proofs.Reaches.{reaches}
-use Rattle.sig_flag.proofs.Keeping.{Whole}
+use Rattle.sig_flag.proofs.Keeping.{Whole, found_of, raised_of}
 use Rattle.sig_flag.proofs.Stepping.{Rule}
 use Rattle.sig_flag.proofs.Takes.{there}
+use Rattle.sig_flag.proofs.Totals.{read_there, sum_by-map, total_alone, total_none}
 use Rattle.sig_flag.specs.Accounts.{plan_at, watch, hold, opening_account, no_layout}
-use Rattle.sig_flag.specs.Closing.{IsShut, AreHeard, AreTaken, AreReady, AreHome}
-use Rattle.sig_flag.specs.Layouts.{Layout, IsLeafOf, leaf_at, no_leaf, ready_of}
-use Rattle.sig_flag.specs.Machines.{account, HasNoTurn, OwesNothing, IsLast, IsEnd, IsHeard}
-use Rattle.sig_flag.specs.Told.{IsOwed, IsStirred, IsWatched, IsWatching, version_at}
+use Rattle.sig_flag.specs.Closing.{IsShut, AreCounted, AreHeard, AreTaken, AreReady, AreHome}
+use Rattle.sig_flag.specs.Layouts.{Layout, IsLeafOf, leaf_at, no_leaf, ready_of, words_of}
+use Rattle.sig_flag.specs.Machines.{account, HasNoTurn, OwesNothing, IsLast, IsEnd, IsHeard, IsReadyList}
+use Rattle.sig_flag.specs.Told.{IsOwed, IsStirred, IsWatched, IsWatching, version_at, total}
 use Rattle.sig_flag.specs.Turns.{IsTurn, IsState, IsAccount}
 use Rattle.sig_flag.specs.declared.accounts.Account.{Account}
 use Rattle.sig_hist.specs.declared.edits.Entry.{Entry}
@@ -98,6 +101,11 @@ module _ {V : Type 0} (plan_of : V → SourcePlan) (history_of : V → List Entr
   pub heard_without : (all : List (Seat (Option V) (List Account))) (words : List ℕ) (slots : List (Option V)) → all ≡ [] → AreHeard plan_of history_of layout all words slots
   heard_without all words slots none = record { each = λ _ _ _ _ _ _ k d near. absurd (omega (arith, ap length none)) }
 
+  -- where there is no seat no view has an account
+  nobody : (s : State (Option V) (List Account)) (told : Rule plan_of history_of layout.plans layout.seats s) → layout.seats ≡ 0 → (view : ℕ) (own : List Account) → get_elem? s.views view ≡ slot.some own → own ≡ []
+  nobody s told none view [] is = refl
+  nobody s told none view (account ∷ own) is = absurd (let few = (told.accounts view 0 (account ∷ own) account is refl).of_seat in omega (arith, none))
+
   all_there : (s : State (Option V) (List Account)) (told : Rule plan_of history_of layout.plans layout.seats s) (id : ℕ) (all : List (Seat (Option V) (List Account))) → get_elem? s.views id ≡ slot.some (map account all) → layout.seats ≤ length all →
       AreAll plan_of history_of layout.plans layout.seats s told all
   all_there s told id all at counted =
@@ -125,23 +133,42 @@ module _ {V : Type 0} (plan_of : V → SourcePlan) (history_of : V → List Entr
     in_view : (k : ℕ) → k < length all → get_elem? (map account all) k ≡ slot.some (get_or (map account all) k lone)
     in_view k within = there_or (map account all) k lone (omega (arith, length-map all account))
 
-    none_owed : (owed : Account → List ℕ) (what : ℕ) → All (λ (seat : Seat (Option V) (List Account)). owed (account seat) ≡ []) all → IsOwed owed s.views what → ⊥
-    none_owed owed what none was =
-        let is = told.turns.accounts was.view was.at was.all was.account was.is_view was.is_account in
-        let who = (all_there s told.turns id all at counted).covers was.account.number is.of_seat in
+    -- an account of any view is one of these
+    record IsCovered (view : ℕ) (found : Account) : Type 0 where
+      index : ℕ
+      default : Seat (Option V) (List Account)
+      near : index < length all
+      numbered : (get_or (map account all) index lone).number ≡ found.number
+      here : view ≡ id
+
+    covered : (view place : ℕ) (own : List Account) (found : Account) → get_elem? s.views view ≡ slot.some own → get_elem? own place ≡ slot.some found → IsCovered view found
+    covered view place own found is_view is_account =
+        let is = told.turns.accounts view place own found is_view is_account in
+        let who = (all_there s told.turns id all at counted).covers found.number is.of_seat in
         let index = who.0 in
         let near = who.2 in
-        let d = who.1 in
-        let same : get_or (map account all) index lone ≡ account (get_or all index d) = get_or-map account all index d lone near in
         let mine = told.turns.accounts id index (map account all) (get_or (map account all) index lone) at (in_view index near) in
-        let numbered : (get_or (map account all) index lone).number ≡ was.account.number = ap (λ (a : Account). a.number) same ∙ who.3 in
-        let here : was.view ≡ id = sym is.at_place ∙ ap told.turns.place (sym numbered) ∙ mine.at_place in
-        let all_is : map account all ≡ was.all = some-injective (map account all) was.all (sym at ∙ ap (get_elem? s.views) (sym here) ∙ was.is_view) in
+        let numbered : (get_or (map account all) index lone).number ≡ found.number = ap (λ (a : Account). a.number) (get_or-map account all index who.1 lone near) ∙ who.3 in
+        record { index = index; default = who.1; near = near; numbered = numbered; here = sym is.at_place ∙ ap told.turns.place (sym numbered) ∙ mine.at_place }
+
+    -- each other view is empty
+    others_empty : (view : ℕ) (own : List Account) → view ≢ id → get_elem? s.views view ≡ slot.some own → own ≡ []
+    others_empty view [] other is_view = refl
+    others_empty view (found ∷ own) other is_view = absurd (other (covered view 0 (found ∷ own) found is_view refl).here)
+
+    none_owed : (owed : Account → List ℕ) (what : ℕ) → All (λ (seat : Seat (Option V) (List Account)). owed (account seat) ≡ []) all → IsOwed owed s.views what → ⊥
+    none_owed owed what none was =
+        let is = covered was.view was.at was.all was.account was.is_view was.is_account in
+        let own = get_or (map account all) is.index lone in
+        let all_is : map account all ≡ was.all = some-injective (map account all) was.all (sym at ∙ ap (get_elem? s.views) (sym is.here) ∙ was.is_view) in
         let lies : get_elem? (map account all) was.at ≡ slot.some was.account = subst (λ (l : List Account). get_elem? l was.at ≡ slot.some was.account) (sym all_is) was.is_account in
-        let place : was.at ≡ index = told.turns.apart id was.at index (map account all) was.account (get_or (map account all) index lone) at lies (in_view index near) (sym numbered) in
-        let found : was.account ≡ get_or (map account all) index lone = some-injective was.account (get_or (map account all) index lone) (sym lies ∙ ap (get_elem? (map account all)) place ∙ in_view index near) in
-        let empty : owed was.account ≡ [] = ap owed (found ∙ same) ∙ none index d near in
+        let place : was.at ≡ is.index = told.turns.apart id was.at is.index (map account all) was.account own at lies (in_view is.index is.near) (sym is.numbered) in
+        let found : was.account ≡ own = some-injective was.account own (sym lies ∙ ap (get_elem? (map account all)) place ∙ in_view is.index is.near) in
+        let empty : owed was.account ≡ [] = ap owed (found ∙ get_or-map account all is.index is.default lone is.near) ∙ none is.index is.default is.near in
         absurd (let not = sym (ap (is_among what) empty) ∙ was.owes in cc)
+
+    total_all : (f : Account → ℕ) → total f s.views ≡ sum_by (λ seat. f (account seat)) all
+    total_all f = total_alone f s.views id (map account all) at others_empty ∙ sum_by-map f account all
 
     heard_at : (words : List ℕ) → s.words ≡ words → All OwesNothing all → (leaf tokens : ℕ) (version : Version) (condition : Condition) → leaf < length layout.leaves → (leaf_at layout.leaves leaf).task < length layout.pollers → condition ≡ Waiting version →
         IsWatched layout s.words s.views told.turns.history leaf tokens condition →
@@ -177,6 +204,30 @@ module _ {V : Type 0} (plan_of : V → SourcePlan) (history_of : V → List Entr
             (heard_at s told id all at counted words final.2 nothing leaf (hold (account (get_or all k d)) (leaf_at layout.leaves leaf).task).tokens version (watch (account (get_or all k d)) leaf).condition within on.of_task waits (watched.each leaf within));
       }
 
+  -- what a task's word is, by the totals
+  word_counted : (s : State (Option V) (List Account)) (told : Whole plan_of history_of layout s) (words : List ℕ) (task word found raised : ℕ) → s.words ≡ words → task < length layout.pollers →
+      get_elem? words (ready_of layout task) ≡ slot.some word → total (found_of task) s.views ≡ found → total (raised_of task) s.views ≡ raised → word + found ≡ 1 + raised
+  word_counted s told words task word found raised words_are within is found_is raised_is =
+      let read : slice_index s.words (ready_of layout task) ≡ word = read_there s.words (ready_of layout task) 0 word (subst (λ (all : List ℕ). get_elem? all (ready_of layout task) ≡ slot.some word) (sym words_are) is) in
+      omega (arith, told.counts task within, read, found_is, raised_is)
+
+  pub counted_without : (all : List (Seat (Option V) (List Account))) (words : List ℕ) (slots : List (Option V)) → all ≡ [] → layout.seats ≤ length all → Final (Whole plan_of history_of layout) words slots → AreCounted layout all words
+  counted_without all words slots none few final =
+      let s = final.0 in
+      let told : Whole plan_of history_of layout s = final.1 in
+      let empty : (view : ℕ) (own : List Account) → get_elem? s.views view ≡ slot.some own → own ≡ [] = nobody s told.turns (omega (arith, ap length none)) in
+      let sum_is : (f : Account → ℕ) → total f s.views ≡ sum_by (λ seat. f (account seat)) all =
+      λ f. total_none f s.views empty ∙ ap (λ (seats : List (Seat (Option V) (List Account))). sum_by (λ seat. f (account seat)) seats) (sym none) in
+      record { each = λ task word within is. word_counted s told words task word _ _ final.2 within is (sum_is (found_of task)) (sum_is (raised_of task)) }
+
+  pub counted_with : (id : ℕ) (all : List (Seat (Option V) (List Account))) (view : List Account) (words : List ℕ) (slots : List (Option V)) → view ≡ map account all → layout.seats ≤ length all →
+      Final (Seen (Whole plan_of history_of layout) id view) words slots → AreCounted layout all words
+  counted_with id all view words slots view_is counted final =
+      let s = final.0 in
+      let told : Whole plan_of history_of layout s = final.1.0 in
+      let at = final.1.1 ∙ ap slot.some view_is in
+      record { each = λ task word within is. word_counted s told words task word _ _ final.2 within is (total_all s told id all at counted (found_of task)) (total_all s told id all at counted (raised_of task)) }
+
   -- all accounts came to one seat
   pub shut_with : (id : ℕ) (all : List (Seat (Option V) (List Account))) (view : List Account) (words : List ℕ) (slots : List (Option V)) → view ≡ map account all → layout.seats ≤ length all → All HasNoTurn all → length slots ≡ length layout.plans →
       Final (Seen (Whole plan_of history_of layout) id view) words slots → IsShut plan_of history_of layout.plans all slots
@@ -201,7 +252,6 @@ module _ {V : Type 0} (plan_of : V → SourcePlan) (history_of : V → List Entr
   pub ends_heard : (all : List (Seat (Option V) (List Account))) (words : List ℕ) (slots : List (Option V)) (count : ℕ) (states : List V) (ready : List Bool) → All (IsLeafOf (length layout.plans) (length layout.pollers)) layout.leaves →
       AreHeard plan_of history_of layout all words slots → AreTaken slots count states → AreReady words (length layout.plans + length layout.leaves) (length layout.pollers) ready → IsHeard plan_of history_of layout all states ready
   ends_heard all words slots count states ready leaves heard taken are = record {
-    all = are.all;
     each = λ nothing leaf version state within found k d near waits.
         let task = (leaf_at layout.leaves leaf).task in
         ⊎_elim
@@ -209,3 +259,19 @@ module _ {V : Type 0} (plan_of : V → SourcePlan) (history_of : V → List Entr
         (λ told. inr (⊎_elim (λ one. inl (are.each task 1 (leaves leaf no_leaf within).of_task one)) (λ token. inr token) told))
         (heard.each nothing leaf version state within (taken.each (leaf_at layout.leaves leaf).source state found) k d near waits);
   }
+
+-- the word is 1 where it was told as often as it was found told
+told_once_more : (word found raised : ℕ) → word + found ≡ 1 + raised → (word == 1) ≡ (found == raised)
+told_once_more word found raised is = dite (ℕ_discrete found raised)
+    (λ same. eq-eqb word 1 (omega arith) ∙ sym (eq-eqb found raised same))
+    (λ other. ne_eqb word 1 (λ one. other (omega arith)) ∙ sym (ne_eqb found raised other))
+
+pub ends_ready : {V : Type 0} (layout : Layout) (all : List (Seat (Option V) (List Account))) (words : List ℕ) (ready : List Bool) → words_of layout ≤ length words → AreCounted layout all words →
+    AreReady words (length layout.plans + length layout.leaves) (length layout.pollers) ready → IsReadyList layout all ready
+ends_ready layout all words ready wide counted are = record {
+  all = are.all;
+  each = λ task within.
+      let word : ℕ = get_or words (ready_of layout task) 0 in
+      let is : get_elem? words (ready_of layout task) ≡ slot.some word = there_or words (ready_of layout task) 0 (omega arith) in
+      are.each task word within is ∙ told_once_more word _ _ (counted.each task word within is);
+}

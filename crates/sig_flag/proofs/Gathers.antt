@@ -14,6 +14,7 @@ use Rattle.sig_flag.proofs.Keeping.{Whole, rings_of, tells_of, moved}
 use Rattle.sig_flag.proofs.Peels.{moved_account}
 use Rattle.sig_flag.proofs.Owing.{numbers_of, there_owed, is_there}
 use Rattle.sig_flag.proofs.Stepping.{Rule, Turned}
+use Rattle.sig_flag.proofs.Totals.{total_join}
 use Rattle.sig_flag.proofs.Views.{within}
 use Rattle.sig_flag.specs.Closing.{Rests}
 use Rattle.sig_flag.specs.Layouts.{Layout}
@@ -164,6 +165,7 @@ module _ {V : Type 0} (plan_of : V → SourcePlan) (history_of : V → List Entr
   gathered_whole s told id other own others different at_id at_other =
       let seen = set (set s.views id (others ++ own)) other no_account in
       moved plan_of history_of layout s told seen (gathered plan_of history_of layout.plans layout.seats s told.turns id other own others different at_id at_other)
+      (λ f. total_join f s.views id other own others different at_id at_other)
       (λ what. gathered_owed rings_of s.views id other own others different at_id at_other what) (λ what. gathered_owed tells_of s.views id other own others different at_id at_other what)
       (λ view index all account is_view is_account. elim (lies s.views id other (others ++ own) view all is_view) [
         | at_both here is_all ↦ elim (is_at others own index account (subst (λ (l : List Account). get_elem? l index ≡ slot.some account) (sym is_all) is_account)) [

@@ -1,5 +1,5 @@
 -- What a step keeps of what is certain of leaves.
-use Rattle.std.proofs.Common.{◌≡◌, ◌∙◌, ℕ, ◌<◌, ◌≤◌, ◌≢◌, ◌⊎◌, ⊎_elim, inl, inr, List, [], ◌∷◌, length, slice_index, set, true, Option, refl, sym, ap, subst, arith}
+use Rattle.std.proofs.Common.{◌≡◌, ◌∙◌, ℕ, ◌+◌, ◌<◌, ◌≤◌, ◌≢◌, ◌⊎◌, ⊎_elim, inl, inr, List, [], ◌∷◌, length, slice_index, set, true, Option, refl, sym, ap, subst, arith}
 use Rattle.std.proofs.lemmas.List.{get_or-set_same, get_or-set_other, length-set}
 use mathlib.Core.Logic.{dite}
 use mathlib.Core.Option as slot
@@ -8,11 +8,13 @@ use lib.ListN.{get_elem?}
 use Rattle.atomic_table.specs.Table.{State}
 use Rattle.sig_flag.proofs.Owing.{still_owed, owed_now}
 use Rattle.sig_flag.proofs.Stepping.{Turned}
+use Rattle.sig_flag.proofs.Totals.{total_step}
 use Rattle.sig_flag.proofs.Views.{found}
 use Rattle.sig_flag.specs.Accounts.{watch, hold}
 use Rattle.sig_flag.specs.Layouts.{Layout, leaf_at, bell_of, ready_of, words_of, poller_of}
-use Rattle.sig_flag.specs.Told.{IsOwed, IsStirred, IsSet, IsUpTo, IsWatched, IsWatching, version_at, Told}
+use Rattle.sig_flag.specs.Told.{IsOwed, IsStirred, IsSet, IsUpTo, IsWatched, IsWatching, version_at, total, Told}
 use Rattle.sig_flag.specs.declared.accounts.Account.{Account}
+use Rattle.sig_flag.specs.declared.accounts.Hold.{Hold}
 use Rattle.sig_hist.specs.Sources.{is_among}
 use Rattle.sig_hist.specs.declared.edits.Entry.{Entry}
 use Rattle.sig_hist.specs.declared.plans.SourcePlan.{SourcePlan}
@@ -28,6 +30,31 @@ tells_of account = account.tells
 
 abbrev pub task_of : Layout → ℕ → ℕ
 task_of layout leaf = (leaf_at layout.leaves leaf).task
+
+-- an account's counts of a task go on with the task's ready word
+abbrev pub Balances : Layout → List ℕ → List ℕ → Account → Account → ℕ → Type 0
+Balances layout words after old new task =
+    slice_index after (ready_of layout task) + (hold new task).found + (hold old task).raised ≡ slice_index words (ready_of layout task) + (hold old task).found + (hold new task).raised
+
+abbrev pub found_of : ℕ → Account → ℕ
+found_of task account = (hold account task).found
+
+abbrev pub raised_of : ℕ → Account → ℕ
+raised_of task account = (hold account task).raised
+
+module _ (layout : Layout) (words : List ℕ) (place value : ℕ) (old new : Account) where
+  -- the ready word is another, and the counts stay
+  pub balances_apart : (task : ℕ) → ready_of layout task ≢ place → found_of task new ≡ found_of task old → raised_of task new ≡ raised_of task old → Balances layout words (set words place value) old new task
+  balances_apart task other found raised = let word = get_or-set_other words place (ready_of layout task) value 0 other in omega (arith, word, found, raised)
+
+  -- the word is the ready word of a task, and of other tasks nothing changes
+  pub balances_at : (task : ℕ) → place ≡ ready_of layout task → place < length words → ((other : ℕ) → other ≢ task → hold new other ≡ hold old other) →
+      value + found_of task new + raised_of task old ≡ slice_index words place + found_of task old + raised_of task new → (other : ℕ) → Balances layout words (set words place value) old new other
+  balances_at task is within elsewhere here other = dite (ℕ_discrete other task)
+      (λ same. subst (Balances layout words (set words place value) old new) (sym same)
+      (subst (λ (k : ℕ). slice_index (set words place value) k + found_of task new + raised_of task old ≡ slice_index words k + found_of task old + raised_of task new) is
+      (let word = get_or-set_same words place value 0 within in omega (arith, word, here))))
+      (λ different. balances_apart other (λ same. different (omega arith)) (ap (λ (h : Hold). h.found) (elsewhere other different)) (ap (λ (h : Hold). h.raised) (elsewhere other different)))
 
 -- from the words, views and histories before a step to those after it
 module _ (layout : Layout) (words after : List ℕ) (views seen : List (List Account)) (history later : ℕ → List Entry) where
@@ -70,11 +97,12 @@ module _ {V : Type 0} (plan_of : V → SourcePlan) (history_of : V → List Entr
   module _ (s : State (Option V) (List Account)) (told : Whole s) (id : ℕ) (old new : Account) (at : get_elem? s.views id ≡ slot.some (old ∷ [])) where
     -- the leaves of all others are as they were: they keep all, or the seat itself polls them
     pub told_after : (word value : ℕ) (homes : List (slot.Option (Option V))) (later : ℕ → List Entry) → (length layout.plans ≤ word → value ≤ 1) →
+        ((task : ℕ) → task < length layout.pollers → Balances layout s.words (set s.words word value) old new task) →
         Turned plan_of history_of layout.plans layout.seats (record { words = set s.words word value; homes = homes; views = set s.views id (new ∷ []) }) later →
         ((leaf : ℕ) → leaf < length layout.leaves → (old.number ≡ poller_of layout leaf) ⊎ Keeps layout s.words (set s.words word value) s.views (set s.views id (new ∷ [])) told.turns.history later leaf) →
         IsWatching layout (set s.words word value) (set s.views id (new ∷ [])) later new →
         Whole (record { words = set s.words word value; homes = homes; views = set s.views id (new ∷ []) })
-    told_after word value homes later bit turned keeps own =
+    told_after word value homes later bit balances turned keeps own =
         let after = set s.words word value in
         let seen = set s.views id (new ∷ []) in
         let mine = told.turns.accounts id 0 (old ∷ []) old at refl in
@@ -85,6 +113,10 @@ module _ {V : Type 0} (plan_of : V → SourcePlan) (history_of : V → List Entr
               (λ same. subst (λ (k : ℕ). slice_index after k ≤ 1) (sym same)
               (subst (λ (n : ℕ). n ≤ 1) (sym (get_or-set_same s.words word value 0 (omega (arith, told.wide)))) (bit (omega arith))))
               (λ other. subst (λ (n : ℕ). n ≤ 1) (sym (get_or-set_other s.words word place value 0 other)) (told.bits place beyond near));
+          counts = λ task near.
+              let was = told.counts task near in
+              let changed = balances task near in
+              omega (arith, was, changed, total_step (found_of task) s.views id old new at, total_step (raised_of task) s.views id old new at);
           watching = λ view index all account is_view is_account. subst (λ (h : ℕ → List Entry). IsWatching layout after seen h account) (sym turned.1) (⊎_elim
               (λ here. subst (IsWatching layout after seen later) here.2 own)
               (λ kept.
@@ -134,10 +166,10 @@ module _ {V : Type 0} (plan_of : V → SourcePlan) (history_of : V → List Entr
 
   -- the accounts change their views, and nothing else happens
   pub moved : (s : State (Option V) (List Account)) (told : Whole s) (seen : List (List Account)) → Turned plan_of history_of layout.plans layout.seats (record { words = s.words; homes = s.homes; views = seen }) told.turns.history →
-      ((what : ℕ) → IsOwed rings_of s.views what → IsOwed rings_of seen what) → ((what : ℕ) → IsOwed tells_of s.views what → IsOwed tells_of seen what) →
+      ((f : Account → ℕ) → total f seen ≡ total f s.views) → ((what : ℕ) → IsOwed rings_of s.views what → IsOwed rings_of seen what) → ((what : ℕ) → IsOwed tells_of s.views what → IsOwed tells_of seen what) →
       ((view at : ℕ) (all : List Account) (account : Account) → get_elem? seen view ≡ slot.some all → get_elem? all at ≡ slot.some account → IsWatching layout s.words s.views told.turns.history account) →
       Whole (record { words = s.words; homes = s.homes; views = seen })
-  moved s told seen turned rings tells was =
+  moved s told seen turned same_total rings tells was =
       let history = told.turns.history in
       let keep : (leaf : ℕ) → leaf < length layout.leaves → Keeps layout s.words s.words s.views seen history history leaf =
       λ leaf _.
@@ -147,6 +179,7 @@ module _ {V : Type 0} (plan_of : V → SourcePlan) (history_of : V → List Entr
         turns = turned.0;
         wide = told.wide;
         bits = told.bits;
+        counts = λ task near. ap (λ (n : ℕ). slice_index s.words (ready_of layout task) + n) (same_total (found_of task)) ∙ told.counts task near ∙ ap (λ (n : ℕ). 1 + n) (sym (same_total (raised_of task)));
         watching = λ view index all account is_view is_account.
             subst (λ (h : ℕ → List Entry). IsWatching layout s.words seen h account) (sym turned.1)
             (still_watching layout s.words s.words s.views seen history history account account refl refl refl keep (was view index all account is_view is_account));

@@ -15,5 +15,6 @@ mod Rings
 mod Shown
 mod Stepping
 mod Takes
+mod Totals
 mod Views
 mod Watching

@@ -1,21 +1,23 @@
 -- The told rule holds at the start.
-use Rattle.std.proofs.Common.{◌≡◌, ◌∙◌, ℕ, zero, suc, ◌+◌, ◌-◌, ◌<◌, ◌≤◌, List, [], ◌∷◌, ◌++◌, length, map, replicate, get_or, Bool, Option, None, Some, All, refl, sym, ap, subst, append_assoc, arith}
-use Rattle.std.proofs.lemmas.List.{length-map, length-append, length-replicate, get_or_append_left, get_or-append_right}
+use Rattle.std.proofs.Common.{◌≡◌, ◌∙◌, ℕ, zero, suc, ◌+◌, ◌-◌, ◌<◌, ◌≤◌, List, [], ◌∷◌, ◌++◌, length, map, replicate, get_or, sum_by, Bool, Option, None, Some, All, refl, sym, ap, subst, append_assoc, arith}
+use Rattle.std.proofs.lemmas.List.{length-map, length-append, length-replicate, get_or_append_left, get_or-append_right, get_or-append-add, get_or-replicate}
+use Rattle.std.proofs.lemmas.List.Sums.{sum_by-cons}
 use Rattle.std.proofs.lemmas.List.Elements.{All-head, All-tail}
 use Rattle.std.proofs.Math.ListN.{get_or-map}
 use mathlib.Core.Option as slot
 use mathlib.Core.Option.{some-injective, some-ne-none}
 use lib.ListN.{get_elem?}
 use Rattle.atomic_table.specs.Table.{opening}
-use Rattle.sig_flag.proofs.Keeping.{Whole, task_of}
+use Rattle.sig_flag.proofs.Keeping.{Whole, task_of, found_of, raised_of}
 use Rattle.sig_flag.proofs.Stepping.{Rule}
 use Rattle.sig_flag.specs.Accounts.{plan_at, no_plan, no_watch, no_hold, known, hold, opening_knowledge, opening_account, accounts_from, opening_accounts}
 use Rattle.sig_flag.specs.Layouts.{Layout, no_leaf}
 use Rattle.sig_flag.specs.Machines.{IsNew, IsShape, layout_by}
-use Rattle.sig_flag.specs.Told.{IsWatched, IsWatching}
+use Rattle.sig_flag.specs.Told.{IsWatched, IsWatching, total}
 use Rattle.sig_flag.specs.Turns.{IsHistory, IsKnown, IsTurn, IsAccount}
 use Rattle.sig_flag.specs.Words.{word_of}
 use Rattle.sig_flag.specs.declared.accounts.Account.{Account}
+use Rattle.sig_flag.specs.declared.accounts.Hold.{Hold}
 use Rattle.sig_flag.specs.declared.accounts.Watch.{Watch}
 use Rattle.sig_flag.specs.declared.shape.FlagShape.{FlagShape}
 use Rattle.sig_flag.specs.declared.shape.LeafPlan.{LeafPlan}
@@ -85,6 +87,34 @@ opening_bit : (sources : List ℕ) (leaves tasks place : ℕ) → length sources
 opening_bit sources leaves tasks place beyond =
     subst (λ (n : ℕ). n ≤ 1) (sym (get_or-append_right sources (replicate leaves 0 ++ replicate tasks 1) (length sources) place 0 refl beyond)) (bell_bit leaves tasks (place - length sources))
 
+-- each task's word says that it is told
+opening_ready : (sources : List ℕ) (leaves tasks task : ℕ) → task < tasks → get_or (sources ++ (replicate leaves 0 ++ replicate tasks 1)) (length sources + leaves + task) 0 ≡ 1
+opening_ready sources leaves tasks task within =
+    let there : length sources + leaves + task ≡ length sources + (leaves + task) = omega arith in
+    let long : length (replicate {A = ℕ} leaves 0) ≡ leaves = length-replicate leaves 0 in
+    ap (λ (k : ℕ). get_or (sources ++ (replicate leaves 0 ++ replicate tasks 1)) k 0) there
+    ∙ get_or-append-add sources (replicate leaves 0 ++ replicate tasks 1) (leaves + task) 0
+    ∙ ap (λ (k : ℕ). get_or (replicate leaves 0 ++ replicate tasks 1) (k + task) 0) (sym long)
+    ∙ get_or-append-add (replicate leaves 0) (replicate tasks 1) task 0
+    ∙ get_or-replicate tasks task 1 0 within
+
+-- ---- totals
+
+-- what no account has at the start adds up to nothing
+opening_sum : (f : Account → ℕ) (layout : Layout) (first count : ℕ) → ((number : ℕ) → f (opening_account layout number) ≡ 0) → sum_by f (accounts_from layout first count) ≡ 0
+opening_sum f layout first zero none = refl
+opening_sum f layout first (suc others) none =
+    let later = opening_sum f layout (suc first) others none in
+    let is = sum_by-cons f (opening_account layout first) (accounts_from layout (suc first) others) in
+    let here = none first in
+    omega (arith, later, is, here)
+
+opening_total : (f : Account → ℕ) (layout : Layout) → ((number : ℕ) → f (opening_account layout number) ≡ 0) → total f (opening_accounts layout ∷ []) ≡ 0
+opening_total f layout none =
+    let all = opening_sum f layout 0 layout.seats none in
+    let is = sum_by-cons (λ accounts. sum_by f accounts) (opening_accounts layout) [] in
+    omega (arith, all, is)
+
 -- ---- sources
 
 module _ {V : Type 0} (plan_of : V → SourcePlan) (history_of : V → List Entry) where
@@ -143,6 +173,13 @@ module _ {V : Type 0} (plan_of : V → SourcePlan) (history_of : V → List Entr
         turns = turns;
         wide = omega (arith, length-append sources more, length-append {A = ℕ} (replicate (length shape.leaves) 0) (replicate (length shape.tasks) 1), length-replicate {A = ℕ} (length shape.leaves) 0, length-replicate {A = ℕ} (length shape.tasks) 1);
         bits = λ place beyond near. opening_bit sources (length shape.leaves) (length shape.tasks) place (omega (arith, long));
+        counts = λ task near.
+            let holds = get_or-map (λ (poller : ℕ). no_hold) layout.pollers task 0 in
+            let word : get_or (sources ++ more) (length layout.plans + length layout.leaves + task) 0 ≡ 1 =
+            ap (λ (k : ℕ). get_or (sources ++ more) (k + length layout.leaves + task) 0) (sym long) ∙ opening_ready sources (length shape.leaves) (length shape.tasks) task near in
+            let found = opening_total (found_of task) layout (λ number. ap (λ (h : Hold). h.found) holds) in
+            let raised = opening_total (raised_of task) layout (λ number. ap (λ (h : Hold). h.raised) holds) in
+            omega (arith, word, found, raised);
         watching = λ view index all account is_view is_account.
             let found = first_view layout view index all account is_view is_account in
             subst (IsWatching layout (sources ++ more) (opening_accounts layout ∷ []) turns.history) found.1.same (opening_watching layout (sources ++ more) (opening_accounts layout ∷ []) turns.history index);

@@ -13,6 +13,7 @@ use Rattle.atomic_table.proofs.Lists.{at_set, set_here, set_else, at_longer, at_
 use Rattle.sig_flag.proofs.Keeping.{Whole, rings_of, tells_of, moved}
 use Rattle.sig_flag.proofs.Owing.{numbers_of, there_owed, is_there}
 use Rattle.sig_flag.proofs.Stepping.{Rule, Turned, put_here, put_else}
+use Rattle.sig_flag.proofs.Totals.{total_split}
 use Rattle.sig_flag.proofs.Views.{alone, within}
 use Rattle.sig_flag.specs.Accounts.{accounts_from, opening_account}
 use Rattle.sig_flag.specs.Layouts.{Layout}
@@ -144,6 +145,7 @@ module _ {V : Type 0} (plan_of : V → SourcePlan) (history_of : V → List Entr
   peeled_whole s told id first others at =
       let seen = set s.views id others ++ (first ∷ []) ∷ [] in
       moved plan_of history_of layout s told seen (peeled plan_of history_of layout.plans layout.seats s told.turns id first others at)
+      (λ f. total_split f s.views id first others at)
       (λ what. peeled_owed rings_of s.views id first others at what) (λ what. peeled_owed tells_of s.views id first others at what)
       (λ view index all account is_view is_account. elim (lies s.views id first others view all is_view) [
         | at_left here is_all ↦ told.watching id (suc index) (first ∷ others) account at (subst (λ (l : List Account). get_elem? l index ≡ slot.some account) (sym is_all) is_account)

@@ -1,21 +1,23 @@
 -- The steps at bells and ready words keep the told rule.
-use Rattle.std.proofs.Common.{◌≡◌, ◌∙◌, ℕ, ◌<◌, ◌≢◌, ◌==◌, ◌⊎◌, ⊎_elim, inl, inr, List, [], ◌∷◌, length, get_or, set, Bool, true, false, Option, refl, sym, ap, subst, eq-eqb, arith}
+use Rattle.std.proofs.Common.{◌≡◌, ◌∙◌, ℕ, ◌+◌, ◌<◌, ◌≤◌, ◌≢◌, ◌==◌, ◌⊎◌, ⊎_elim, inl, inr, List, [], ◌∷◌, length, get_or, slice_index, set, Bool, true, false, Option, refl, sym, ap, subst, eq-eqb, arith}
+use Rattle.std.proofs.lemmas.Bool.{eqb-true, eqb-false}
 use Rattle.std.proofs.lemmas.List.{get_or-set_same, get_or-set_other}
 use mathlib.Core.Logic.{dite}
 use mathlib.Core.Option as slot
 use native.Mathlib.Decide.{ℕ_discrete}
 use lib.ListN.{get_elem?}
 use Rattle.atomic_table.specs.Table.{State, Allows, step, keeps}
-use Rattle.sig_flag.proofs.Keeping.{Whole, Keeps, task_of, rings_of, tells_of, stirs, bell_kept, still_watched, still_watching, told_after}
+use Rattle.sig_flag.proofs.Keeping.{Whole, Keeps, Balances, balances_apart, balances_at, task_of, rings_of, tells_of, stirs, bell_kept, still_watched, still_watching, told_after}
 use Rattle.sig_flag.proofs.Owing.{still_owed, owed_now, among_front, among_back, among_one, struck_keeps}
 use Rattle.sig_flag.proofs.Stepping.{aside_rule}
-use Rattle.sig_flag.proofs.Watching.{arm_watching, told_watching, missed_watching}
-use Rattle.sig_flag.specs.Accounts.{account_of, watch, hold, after_arm, after_ring, after_tell, after_collect}
+use Rattle.sig_flag.proofs.Watching.{arm_watching, tell_watching, told_watching, missed_watching}
+use Rattle.sig_flag.specs.Accounts.{account_of, watch, hold, no_hold, after_arm, after_ring, after_tell, after_collect}
 use Rattle.sig_flag.specs.Layouts.{Layout, bell_of, ready_of}
 use Rattle.sig_flag.specs.Machines.{IsPolledBy, IsTaskOf}
 use Rattle.sig_flag.specs.Plays.{Seated, IsArming, IsRinging, IsTelling, IsCollecting}
 use Rattle.sig_flag.specs.Told.{IsStirred}
 use Rattle.sig_flag.specs.declared.accounts.Account.{Account}
+use Rattle.sig_flag.specs.declared.accounts.Hold.{Hold}
 use Rattle.sig_flag.specs.declared.shape.LeafPlan.{LeafPlan}
 use Rattle.sig_hist.specs.Sources.{is_among}
 use Rattle.sig_hist.specs.declared.edits.Entry.{Entry}
@@ -48,7 +50,7 @@ module _ {V : Type 0} (plan_of : V → SourcePlan) (history_of : V → List Entr
         let after = set s.words (bell_of layout leaf) 1 in
         let seen = set s.views id (new ∷ []) in
         let keep = λ (other : ℕ) (near : other < length layout.leaves). armed_keeps leaf other polled.within near in
-        told_after plan_of history_of layout s told id old new at (bell_of layout leaf) 1 s.homes told.turns.history (λ _. omega arith)
+        told_after plan_of history_of layout s told id old new at (bell_of layout leaf) 1 s.homes told.turns.history (λ _. omega arith) (λ task near. balances_apart layout s.words (bell_of layout leaf) 1 old new task (λ same. absurd (omega arith)) refl refl)
         (aside_rule plan_of history_of layout.plans layout.seats s told.turns id (bell_of layout leaf) 1 old new (omega arith) at refl refl refl)
         (λ other near. inr (keep other near))
         (arm_watching layout after seen told.turns.history old leaf polled.within polled.poller (inl (get_or-set_same s.words (bell_of layout leaf) 1 0 (let within = polled.within in omega (arith, told.wide))))
@@ -88,16 +90,36 @@ module _ {V : Type 0} (plan_of : V → SourcePlan) (history_of : V → List Entr
     rung_whole leaf was_set is within =
         let new = after_ring layout.leaves old leaf was_set in
         let keep = λ (other : ℕ) (near : other < length layout.leaves). rung_keeps leaf other was_set is within near in
-        told_after plan_of history_of layout s told id old new at (bell_of layout leaf) 0 s.homes told.turns.history (λ _. omega arith)
+        told_after plan_of history_of layout s told id old new at (bell_of layout leaf) 0 s.homes told.turns.history (λ _. omega arith) (λ task near. balances_apart layout s.words (bell_of layout leaf) 0 old new task (λ same. absurd (omega arith)) refl refl)
         (aside_rule plan_of history_of layout.plans layout.seats s told.turns id (bell_of layout leaf) 0 old new (omega arith) at refl refl refl)
         (λ other near. inr (keep other near))
         (still_watching layout s.words (set s.words (bell_of layout leaf) 0) s.views (set s.views id (new ∷ [])) told.turns.history told.turns.history old new refl refl refl keep (told.watching id 0 (old ∷ []) old at refl))
 
     -- ---- tell
 
-    told_keeps : (task other : ℕ) → task < length layout.pollers → other < length layout.leaves → Goes (ready_of layout task) 1 (after_tell old task) other
-    told_keeps task other within near =
-        let new = after_tell old task in
+    ready_bit : (task : ℕ) → task < length layout.pollers → slice_index s.words (ready_of layout task) ≤ 1
+    ready_bit task within = told.bits (ready_of layout task) (omega arith) (omega arith)
+
+    has_hold : (task : ℕ) → task < length layout.pollers → task < length old.holds
+    has_hold task within = let mine = told.watching id 0 (old ∷ []) old at refl in omega (arith, mine.holds)
+
+    told_counts : (task : ℕ) (was_told : Bool) → (get_or s.words (ready_of layout task) 0 == 1) ≡ was_told → task < length layout.pollers → (other : ℕ) →
+        Balances layout s.words (set s.words (ready_of layout task) 1) old (after_tell old task was_told) other
+    told_counts task true is within other =
+        let one = eqb-true (get_or s.words (ready_of layout task) 0) 1 is in
+        balances_at layout s.words (ready_of layout task) 1 old (after_tell old task true) task refl (omega (arith, told.wide)) (λ k _. refl) (omega (arith, one)) other
+    told_counts task false is within other =
+        let not_one = eqb-false (get_or s.words (ready_of layout task) 0) 1 is in
+        let bit = ready_bit task within in
+        let next = get_or-set_same old.holds task (record (hold old task) { raised = (hold old task).raised + 1 }) no_hold (has_hold task within) in
+        let found = ap (λ (h : Hold). h.found) next in
+        let raised = ap (λ (h : Hold). h.raised) next in
+        balances_at layout s.words (ready_of layout task) 1 old (after_tell old task false) task refl (omega (arith, told.wide)) (λ k different. get_or-set_other old.holds task k _ no_hold different)
+        (omega (arith, not_one, bit, found, raised)) other
+
+    told_keeps : (task other : ℕ) (was_told : Bool) → task < length layout.pollers → other < length layout.leaves → Goes (ready_of layout task) 1 (after_tell old task was_told) other
+    told_keeps task other was_told within near =
+        let new = after_tell old task was_told in
         record {
           stirred = λ was. dite (ℕ_discrete (task_of layout other) task)
               (λ same. inl (ap (λ (k : ℕ). get_or (set s.words (ready_of layout task) 1) (ready_of layout k) 0) same ∙ get_or-set_same s.words (ready_of layout task) 1 0 (omega (arith, told.wide))))
@@ -107,14 +129,16 @@ module _ {V : Type 0} (plan_of : V → SourcePlan) (history_of : V → List Entr
           rings = λ _ owed. inl (still_owed rings_of s.views id old new other at (λ owes. owes) owed);
         }
 
-    told_whole : (task : ℕ) → task < length layout.pollers → Next (ready_of layout task) 1 (after_tell old task)
-    told_whole task within =
-        let new = after_tell old task in
-        let keep = λ (other : ℕ) (near : other < length layout.leaves). told_keeps task other within near in
-        told_after plan_of history_of layout s told id old new at (ready_of layout task) 1 s.homes told.turns.history (λ _. omega arith)
+    told_whole : (task : ℕ) (was_told : Bool) → (get_or s.words (ready_of layout task) 0 == 1) ≡ was_told → task < length layout.pollers → Next (ready_of layout task) 1 (after_tell old task was_told)
+    told_whole task was_told is within =
+        let new = after_tell old task was_told in
+        let after = set s.words (ready_of layout task) 1 in
+        let seen = set s.views id (new ∷ []) in
+        let keep = λ (other : ℕ) (near : other < length layout.leaves). told_keeps task other was_told within near in
+        told_after plan_of history_of layout s told id old new at (ready_of layout task) 1 s.homes told.turns.history (λ _. omega arith) (λ other _. told_counts task was_told is within other)
         (aside_rule plan_of history_of layout.plans layout.seats s told.turns id (ready_of layout task) 1 old new (omega arith) at refl refl refl)
         (λ other near. inr (keep other near))
-        (still_watching layout s.words (set s.words (ready_of layout task) 1) s.views (set s.views id (new ∷ [])) told.turns.history told.turns.history old new refl refl refl keep (told.watching id 0 (old ∷ []) old at refl))
+        (tell_watching layout after seen told.turns.history old task was_told (still_watching layout s.words after s.views seen told.turns.history told.turns.history old old refl refl refl keep (told.watching id 0 (old ∷ []) old at refl)))
 
     -- ---- collect
 
@@ -143,12 +167,30 @@ module _ {V : Type 0} (plan_of : V → SourcePlan) (history_of : V → List Entr
           rings = λ _ owed. inl (still_owed rings_of s.views id old new other at (collect_rings was_told task other) owed);
         }
 
+    collected_counts : (task : ℕ) (was_told : Bool) → (get_or s.words (ready_of layout task) 0 == 1) ≡ was_told → task < length layout.pollers → (other : ℕ) →
+        Balances layout s.words (set s.words (ready_of layout task) 0) old (after_collect layout.leaves old task was_told) other
+    collected_counts task true is within other =
+        let one = eqb-true (get_or s.words (ready_of layout task) 0) 1 is in
+        let next = get_or-set_same old.holds task (record (hold old task) { tokens = (hold old task).tokens + 1; found = (hold old task).found + 1 }) no_hold (has_hold task within) in
+        let found = ap (λ (h : Hold). h.found) next in
+        let raised = ap (λ (h : Hold). h.raised) next in
+        balances_at layout s.words (ready_of layout task) 0 old (after_collect layout.leaves old task true) task refl (omega (arith, told.wide)) (λ k different. get_or-set_other old.holds task k _ no_hold different)
+        (omega (arith, one, found, raised)) other
+    collected_counts task false is within other =
+        let not_one = eqb-false (get_or s.words (ready_of layout task) 0) 1 is in
+        let bit = ready_bit task within in
+        let next = get_or-set_same old.holds task (record (hold old task) { missed = (hold old task).missed + 1 }) no_hold (has_hold task within) in
+        let found = ap (λ (h : Hold). h.found) next in
+        let raised = ap (λ (h : Hold). h.raised) next in
+        balances_at layout s.words (ready_of layout task) 0 old (after_collect layout.leaves old task false) task refl (omega (arith, told.wide)) (λ k different. get_or-set_other old.holds task k _ no_hold different)
+        (omega (arith, not_one, bit, found, raised)) other
+
     collected_whole : (task : ℕ) (was_told : Bool) → (get_or s.words (ready_of layout task) 0 == 1) ≡ was_told → IsTaskOf layout task old.number → Next (ready_of layout task) 0 (after_collect layout.leaves old task was_told)
     collected_whole task true is polled =
         let new = after_collect layout.leaves old task true in
         let mine = told.watching id 0 (old ∷ []) old at refl in
         let apart = λ (leaf : ℕ) (near : leaf < length layout.leaves) (different : task_of layout leaf ≢ task). collected_keeps task leaf true polled.within near (inl different) in
-        told_after plan_of history_of layout s told id old new at (ready_of layout task) 0 s.homes told.turns.history (λ _. omega arith)
+        told_after plan_of history_of layout s told id old new at (ready_of layout task) 0 s.homes told.turns.history (λ _. omega arith) (λ other _. collected_counts task true is polled.within other)
         (aside_rule plan_of history_of layout.plans layout.seats s told.turns id (ready_of layout task) 0 old new (omega arith) at refl refl refl)
         (λ leaf near. dite (ℕ_discrete (task_of layout leaf) task) (λ same. inl (polled.poller ∙ ap (λ (k : ℕ). get_or layout.pollers k 0) (sym same))) (λ different. inr (apart leaf near different)))
         (told_watching layout (set s.words (ready_of layout task) 0) (set s.views id (new ∷ [])) told.turns.history s.words s.views told.turns.history old task (let within = polled.within in omega (arith, mine.holds)) mine
@@ -160,7 +202,7 @@ module _ {V : Type 0} (plan_of : V → SourcePlan) (history_of : V → List Entr
         let seen = set s.views id (new ∷ []) in
         let not_one : get_or s.words (ready_of layout task) 0 ≢ 1 = λ one. absurd (let same = eq-eqb (get_or s.words (ready_of layout task) 0) 1 one in cc) in
         let keep = λ (leaf : ℕ) (near : leaf < length layout.leaves). collected_keeps task leaf false polled.within near (inr not_one) in
-        told_after plan_of history_of layout s told id old new at (ready_of layout task) 0 s.homes told.turns.history (λ _. omega arith)
+        told_after plan_of history_of layout s told id old new at (ready_of layout task) 0 s.homes told.turns.history (λ _. omega arith) (λ other _. collected_counts task false is polled.within other)
         (aside_rule plan_of history_of layout.plans layout.seats s told.turns id (ready_of layout task) 0 old new (omega arith) at refl refl refl)
         (λ leaf near. inr (keep leaf near))
         (missed_watching layout after seen told.turns.history old task (still_watching layout s.words after s.views seen told.turns.history told.turns.history old old refl refl refl keep (told.watching id 0 (old ∷ []) old at refl)))
@@ -175,8 +217,9 @@ module _ {V : Type 0} (plan_of : V → SourcePlan) (history_of : V → List Entr
     rings leaf same numbered at_bell within = rw (sym same, sym numbered, at_bell) (λ s told long at short.
         (after_ring layout.leaves (account_of me.0) leaf (get_or s.words (bell_of layout leaf) 0 == 1) ∷ [], keeps, tt, rung_whole s told id (account_of me.0) (at ∙ ap slot.some one) leaf (get_or s.words (bell_of layout leaf) 0 == 1) refl within, refl))
 
-    pub tells : (task : ℕ) → task ≡ number → word ≡ ready_of layout task → task < length layout.pollers → Allows (Whole plan_of history_of layout) slots id me word (λ _. 1) (λ _. IsTelling number (step slots word 1 0 slot.none) me 1)
-    tells task numbered at_ready within = rw (sym numbered, at_ready) (λ s told long at short. (after_tell (account_of me.0) task ∷ [], keeps, tt, told_whole s told id (account_of me.0) (at ∙ ap slot.some one) task within, refl))
+    pub tells : (task : ℕ) → task ≡ number → word ≡ ready_of layout task → task < length layout.pollers → Allows (Whole plan_of history_of layout) slots id me word (λ _. 1) (IsTelling number (step slots word 1 0 slot.none) me)
+    tells task numbered at_ready within = rw (sym numbered, at_ready) (λ s told long at short.
+        (after_tell (account_of me.0) task (get_or s.words (ready_of layout task) 0 == 1) ∷ [], keeps, tt, told_whole s told id (account_of me.0) (at ∙ ap slot.some one) task (get_or s.words (ready_of layout task) 0 == 1) refl within, refl))
 
     pub collects : (task : ℕ) → layout.leaves ≡ leaves → task ≡ number → word ≡ ready_of layout task → IsTaskOf layout task (account_of me.0).number → Allows (Whole plan_of history_of layout) slots id me word (λ _. 0) (IsCollecting leaves number (step slots word 0 0 slot.none) me)
     collects task same numbered at_ready polled = rw (sym same, sym numbered, at_ready) (λ s told long at short.

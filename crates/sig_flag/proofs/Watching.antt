@@ -6,7 +6,7 @@ use Rattle.std.proofs.lemmas.Simd.{get_or-zip2, length-zip2}
 use mathlib.Core.Logic.{dite}
 use native.Mathlib.Decide.{ℕ_discrete}
 use Rattle.sig_flag.proofs.Keeping.{task_of}
-use Rattle.sig_flag.specs.Accounts.{watch, hold, no_watch, no_hold, changed, after_look, at_rest, after_collect, after_arm, woken}
+use Rattle.sig_flag.specs.Accounts.{watch, hold, no_watch, no_hold, changed, after_look, at_rest, after_collect, after_arm, after_tell, woken}
 use Rattle.sig_flag.specs.Layouts.{Layout, leaf_at, no_leaf, poller_of}
 use Rattle.sig_flag.specs.Told.{IsSet, IsWatched, IsWatching, version_at}
 use Rattle.sig_flag.specs.declared.accounts.Account.{Account}
@@ -20,7 +20,7 @@ use Rattle.sig_hist.specs.declared.ports.Condition.TheVariants.{Idle, Armed, Che
 use Rattle.sig_hist.specs.declared.ports.Version.{Version}
 
 -- what is read of an element stays where it is written as it was
-set_same : {X Y : Type 0} (f : X → Y) (xs : List X) (at k : ℕ) (x d : X) → f x ≡ f (get_or xs at d) → f (get_or (set xs at x) k d) ≡ f (get_or xs k d)
+pub set_same : {X Y : Type 0} (f : X → Y) (xs : List X) (at k : ℕ) (x d : X) → f x ≡ f (get_or xs at d) → f (get_or (set xs at x) k d) ≡ f (get_or xs k d)
 set_same f [] at k x d is = refl
 set_same f (first ∷ xs) zero zero x d is = is
 set_same f (first ∷ xs) zero (suc k) x d is = refl
@@ -85,14 +85,13 @@ module _ (layout : Layout) (words : List ℕ) (views : List (List Account)) (his
   rested_watched leaf before after condition false same was = subst (λ (n : ℕ). IsWatched layout words views history leaf n condition) (sym (same refl)) was
 
   -- a leaf of another task has the tokens that it had
-  other_tokens : (account : Account) (task of_leaf tokens missed : ℕ) → (of_leaf == task) ≡ false →
-      (slice_index_or (set account.holds task (record { tokens = tokens; missed = missed })) of_leaf no_hold).tokens ≡ (hold account of_leaf).tokens
-  other_tokens account task of_leaf tokens missed other = ap (λ (h : _). h.tokens) (get_or-set_other account.holds task of_leaf (record { tokens = tokens; missed = missed }) no_hold (λ same. absurd (let is = eq-eqb of_leaf task same in cc)))
+  other_tokens : (account : Account) (task of_leaf : ℕ) (next : Hold) → (of_leaf == task) ≡ false → (slice_index_or (set account.holds task next) of_leaf no_hold).tokens ≡ (hold account of_leaf).tokens
+  other_tokens account task of_leaf next other = ap (λ (h : Hold). h.tokens) (get_or-set_other account.holds task of_leaf next no_hold (λ same. absurd (let is = eq-eqb of_leaf task same in cc)))
 
   pub rest_watching : (account : Account) (task : ℕ) → IsWatching layout words views history account → IsWatching layout words views history (at_rest layout.leaves account task)
   rest_watching account task was =
       changed_watching words views history (λ leaf condition. cond (leaf.task == task) (settled condition) condition) account (at_rest layout.leaves account task) refl refl (length-set account.holds task _) (λ leaf. same_idle (leaf.task == task) Idle refl) was
-      (λ leaf within. rested_watched leaf (hold account (task_of layout leaf)).tokens _ (watch account leaf).condition (task_of layout leaf == task) (other_tokens account task (task_of layout leaf) _ _) (was.each leaf within))
+      (λ leaf within. rested_watched leaf (hold account (task_of layout leaf)).tokens _ (watch account leaf).condition (task_of layout leaf == task) (other_tokens account task (task_of layout leaf) _) (was.each leaf within))
 
   pub last_look_watching : (account : Account) (leaf : ℕ) (version : Version) (news : Bool) → ((other : ℕ) → (leaf_at layout.leaves other).source ≡ (leaf_at layout.leaves leaf).source → version_at layout words views history other ≡ version) →
       IsWatching layout words views history account →
@@ -114,12 +113,11 @@ module _ (layout : Layout) (words : List ℕ) (views : List (List Account)) (his
   told_watched leaf before after condition true some same was = woken_watched leaf after condition (some refl)
   told_watched leaf before after condition false some same was = subst (λ (n : ℕ). IsWatched layout words views history leaf n condition) (sym (same refl)) (was refl)
 
-  one_token_more : (account : Account) (task of_leaf : ℕ) → task < length account.holds → (of_leaf == task) ≡ true →
-      0 < (slice_index_or (set account.holds task (record { tokens = (hold account task).tokens + 1; missed = (hold account task).missed })) of_leaf no_hold).tokens
-  one_token_more account task of_leaf within same =
+  one_token_more : (account : Account) (task of_leaf : ℕ) (next : Hold) → task < length account.holds → 0 < next.tokens → (of_leaf == task) ≡ true → 0 < (slice_index_or (set account.holds task next) of_leaf no_hold).tokens
+  one_token_more account task of_leaf next within some same =
       let is = eqb-true of_leaf task same in
-      let more = ap (λ (h : _). h.tokens) (get_or-set_same account.holds task (record { tokens = (hold account task).tokens + 1; missed = (hold account task).missed }) no_hold within) in
-      rw is (omega (arith, more))
+      let more = ap (λ (h : Hold). h.tokens) (get_or-set_same account.holds task next no_hold within) in
+      rw is (omega (arith, more, some))
 
   pub told_watching : (words_before : List ℕ) (views_before : List (List Account)) (history_before : ℕ → List Entry) (account : Account) (task : ℕ) → task < length account.holds → IsWatching layout words_before views_before history_before account →
       ((leaf : ℕ) → leaf < length layout.leaves → (task_of layout leaf == task) ≡ false → IsWatched layout words views history leaf (hold account (task_of layout leaf)).tokens (watch account leaf).condition) →
@@ -128,19 +126,25 @@ module _ (layout : Layout) (words : List ℕ) (views : List (List Account)) (his
       changed_watching words_before views_before history_before (λ leaf condition. cond (leaf.task == task) (woken condition) condition) account (after_collect layout.leaves account task true) refl refl (length-set account.holds task _)
       (λ leaf. same_idle (leaf.task == task) Idle refl) was
       (λ leaf here. told_watched leaf (hold account (task_of layout leaf)).tokens _ (watch account leaf).condition (task_of layout leaf == task)
-      (one_token_more account task (task_of layout leaf) within) (other_tokens account task (task_of layout leaf) _ _) (kept leaf here))
+      (one_token_more account task (task_of layout leaf) _ within (omega arith)) (other_tokens account task (task_of layout leaf) _) (kept leaf here))
 
-  -- where none was found, a task has the tokens that it had
-  same_tokens : (account : Account) (task of_leaf : ℕ) → (slice_index_or (set account.holds task (record { tokens = (hold account task).tokens; missed = (hold account task).missed + 1 })) of_leaf no_hold).tokens ≡ (hold account of_leaf).tokens
-  same_tokens account task of_leaf = set_same (λ (h : Hold). h.tokens) account.holds task of_leaf (record { tokens = (hold account task).tokens; missed = (hold account task).missed + 1 }) no_hold refl
+  -- of a task all but the tokens may change
+  same_tokens : (account new : Account) (task : ℕ) (next : Hold) → new.number ≡ account.number → new.watches ≡ account.watches → new.holds ≡ set account.holds task next → next.tokens ≡ (hold account task).tokens →
+      IsWatching layout words views history account → IsWatching layout words views history new
+  same_tokens account new task next number watches holds tokens was = record {
+    watches = ap length watches ∙ was.watches;
+    holds = ap length holds ∙ length-set account.holds task next ∙ was.holds;
+    each = λ leaf within. rw (watches, holds)
+        (subst (λ (n : ℕ). IsWatched layout words views history leaf n (watch account leaf).condition) (sym (set_same (λ (h : Hold). h.tokens) account.holds task (task_of layout leaf) next no_hold tokens)) (was.each leaf within));
+    others = λ leaf within other. rw watches (was.others leaf within (λ polls. other (number ∙ polls)));
+  }
 
   pub missed_watching : (account : Account) (task : ℕ) → IsWatching layout words views history account → IsWatching layout words views history (after_collect layout.leaves account task false)
-  missed_watching account task was = record {
-    watches = was.watches;
-    holds = length-set account.holds task _ ∙ was.holds;
-    each = λ leaf within. subst (λ (n : ℕ). IsWatched layout words views history leaf n (watch account leaf).condition) (sym (same_tokens account task (task_of layout leaf))) (was.each leaf within);
-    others = was.others;
-  }
+  missed_watching account task was = same_tokens account (after_collect layout.leaves account task false) task _ refl refl refl refl was
+
+  pub tell_watching : (account : Account) (task : ℕ) (was_told : Bool) → IsWatching layout words views history account → IsWatching layout words views history (after_tell account task was_told)
+  tell_watching account task true was = record { watches = was.watches; holds = was.holds; each = was.each; others = was.others }
+  tell_watching account task false was = same_tokens account (after_tell account task false) task _ refl refl refl refl was
 
   -- ---- bells
 

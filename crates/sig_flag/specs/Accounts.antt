@@ -28,7 +28,7 @@ no_watch = record { condition = Idle; arms = 0 }
 
 -- of a task that was never told of
 abbrev pub no_hold : Hold
-no_hold = record { tokens = 0; missed = 0 }
+no_hold = record { tokens = 0; missed = 0; raised = 0; found = 0 }
 
 abbrev pub opening_account : Layout → ℕ → Account
 opening_account layout number = record {
@@ -146,9 +146,12 @@ struck what (first ∷ others) = if first == what then others else first ∷ str
 abbrev pub after_ring : List LeafPlan → Account → ℕ → Bool → Account
 after_ring leaves account leaf was_set = record account { rings = struck leaf account.rings; tells = if was_set then account.tells ++ (leaf_at leaves leaf).task ∷ [] else account.tells }
 
--- after a task was told
-abbrev pub after_tell : Account → ℕ → Account
-after_tell account task = record account { tells = struck task account.tells }
+-- after a task was told, by whether it was told already: if not, it was told once more
+abbrev pub after_tell : Account → ℕ → Bool → Account
+after_tell account task was_told = record account {
+  holds = if was_told then account.holds else slice_set account.holds task (record (hold account task) { raised = (hold account task).raised + 1 });
+  tells = struck task account.tells;
+}
 
 -- ---- tokens
 
@@ -157,9 +160,9 @@ abbrev pub woken : Condition → Condition
 woken (Waiting version) = Waiting version
 woken _ = Idle
 
--- after it was asked whether a task was told: if so it has a token more, and else none was found once more
+-- after it was asked whether a task was told: if so it was found told once more and has a token more, and else none was found once more
 abbrev pub after_collect : List LeafPlan → Account → ℕ → Bool → Account
 after_collect leaves account task was_told =
     if was_told then
-    record account { watches = changed (λ leaf condition. if leaf.task == task then woken condition else condition) leaves account; holds = slice_set account.holds task (record (hold account task) { tokens = (hold account task).tokens + 1 }) }
+    record account { watches = changed (λ leaf condition. if leaf.task == task then woken condition else condition) leaves account; holds = slice_set account.holds task (record (hold account task) { tokens = (hold account task).tokens + 1; found = (hold account task).found + 1 }) }
     else record account { holds = slice_set account.holds task (record (hold account task) { missed = (hold account task).missed + 1 }) }

@@ -1,16 +1,13 @@
 -- A machine's table at its end.
-use Rattle.std.specs.Prelude.{◌≡◌, ℕ, ◌+◌, ◌<◌, ◌==◌, List, [], length, slice_get, slice_index_or, Bool, false, Option, Some, ◌⊎◌, All}
+use Rattle.std.specs.Prelude.{◌≡◌, ℕ, ◌+◌, ◌<◌, ◌==◌, List, [], length, sum_by, slice_get, slice_index_or, Bool, false, Option, Some, All}
 use Rattle.atomic_table.specs.Seated.{TableId}
 use Rattle.atomic_table.specs.declared.shared.Seat.{Seat}
-use Rattle.sig_flag.specs.Accounts.{plan_at, watch, hold}
-use Rattle.sig_flag.specs.Layouts.{Layout, leaf_at, ready_of}
-use Rattle.sig_flag.specs.Machines.{account, Has, OwesNothing, IsLast}
+use Rattle.sig_flag.specs.Accounts.{plan_at, hold}
+use Rattle.sig_flag.specs.Layouts.{Layout, ready_of}
+use Rattle.sig_flag.specs.Machines.{account, Has, IsLast, NoneWaits}
 use Rattle.sig_flag.specs.declared.accounts.Account.{Account}
-use Rattle.sig_hist.specs.Plain.{version_of}
 use Rattle.sig_hist.specs.declared.edits.Entry.{Entry}
 use Rattle.sig_hist.specs.declared.plans.SourcePlan.{SourcePlan}
-use Rattle.sig_hist.specs.declared.ports.Condition.TheVariants.{Waiting}
-use Rattle.sig_hist.specs.declared.ports.Version.{Version}
 use lib.ListN.{get_elem?}
 use mathlib.Core.Option.{some}
 
@@ -34,13 +31,15 @@ module _ {V : Type 0} where
     pub all : length states ≡ count
     pub each : (k : ℕ) (state : V) → slice_get states k ≡ Some state → get_elem? slots k ≡ some (Some state)
 
+  -- a task's word tells whether it was told once more than it was found told, the start counted
+  pub record AreCounted (layout : Layout) (seats : List (Seat (Option V) (List Account))) (words : List ℕ) : Type 0 where
+    pub each : (task word : ℕ) → task < length layout.pollers → get_elem? words (ready_of layout task) ≡ some word →
+        word + sum_by (λ seat. (hold (account seat) task).found) seats ≡ 1 + sum_by (λ seat. (hold (account seat) task).raised) seats
+
 module _ {V : Type 0} (plan_of : V → SourcePlan) (history_of : V → List Entry) where
-  -- no task waits untold, by the words and the slots
-  pub record AreHeard (layout : Layout) (seats : List (Seat (Option V) (List Account))) (words : List ℕ) (slots : List (Option V)) : Type 0 where
-    pub each : All OwesNothing seats → (leaf : ℕ) (version : Version) (state : V) → leaf < length layout.leaves → get_elem? slots (leaf_at layout.leaves leaf).source ≡ some (Some state) →
-        All (λ seat. (watch (account seat) leaf).condition ≡ Waiting version →
-        (version_of (record { plan = plan_at layout.plans (leaf_at layout.leaves leaf).source; history = history_of state }) ≡ version)
-        ⊎ ((get_elem? words (ready_of layout (leaf_at layout.leaves leaf).task) ≡ some 1) ⊎ (0 < (hold (account seat) (leaf_at layout.leaves leaf).task).tokens))) seats
+  -- by the slots and the words
+  abbrev pub AreHeard : Layout → List (Seat (Option V) (List Account)) → List ℕ → List (Option V) → Type 0
+  AreHeard layout seats words slots = NoneWaits plan_of history_of layout seats (λ source state. get_elem? slots source ≡ some (Some state)) (λ task. get_elem? words (ready_of layout task) ≡ some 1)
 
   -- each source's state is in its slot
   pub record IsShut (plans : List SourcePlan) (seats : List (Seat (Option V) (List Account))) (slots : List (Option V)) : Type 0 where

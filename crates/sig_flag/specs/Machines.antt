@@ -1,5 +1,5 @@
 -- What the calls of a machine ask and tell.
-use Rattle.std.specs.Prelude.{◌≡◌, ℕ, ◌<◌, ◌≤◌, ◌^◌, List, [], ◌∷◌, ◌++◌, length, map, slice_get, slice_index, slice_index_or, Bool, true, false, Option, None, Some, ◌⊎◌, All}
+use Rattle.std.specs.Prelude.{◌≡◌, ℕ, ◌<◌, ◌≤◌, ◌^◌, ◌==◌, List, [], ◌∷◌, ◌++◌, length, map, sum_by, slice_get, slice_index, slice_index_or, Bool, true, false, Option, None, Some, ◌⊎◌, All}
 use Rattle.atomic_table.specs.Seated.{TableId}
 use Rattle.atomic_table.specs.declared.shared.Seat.{Seat}
 use Rattle.sig_flag.specs.Accounts.{account_of, known, watch, hold, opening_account, after_turn, after_held, plan_at}
@@ -159,11 +159,20 @@ module _ {V : Type 0} (plan_of : V → SourcePlan) (history_of : V → List Entr
     pub counted : length states ≡ length machine.layout.plans
     pub each : (source : ℕ) (state : V) → slice_get states source ≡ Some state → IsLast seats source (plan_at machine.layout.plans source) state
 
-  -- no task waits untold, once nobody has anything to ring or to tell: where a leaf's task waits, the leaf's source shows what it showed then, or
-  -- the task is to be polled, or the seat has a token of it
-  pub record IsHeard (layout : Layout) (seats : List (Seat (Option V) (List Account))) (states : List V) (ready : List Bool) : Type 0 where
-    pub all : length ready ≡ length layout.pollers
-    pub each : All OwesNothing seats → (leaf : ℕ) (version : Version) (state : V) → leaf < length layout.leaves → slice_get states (leaf_at layout.leaves leaf).source ≡ Some state →
+  -- no task waits untold, once nobody has anything to ring or to tell, by the state that each source has and the tasks that are to be polled: where a
+  -- leaf's task waits, the leaf's source shows what it showed then, or the task is to be polled, or the seat has a token of it
+  pub record NoneWaits (layout : Layout) (seats : List (Seat (Option V) (List Account))) (has_state : ℕ → V → Type 0) (is_ready : ℕ → Type 0) : Type 0 where
+    pub each : All OwesNothing seats → (leaf : ℕ) (version : Version) (state : V) → leaf < length layout.leaves → has_state (leaf_at layout.leaves leaf).source state →
         All (λ seat. (watch (account seat) leaf).condition ≡ Waiting version →
         (version_of (record { plan = plan_at layout.plans (leaf_at layout.leaves leaf).source; history = history_of state }) ≡ version)
-        ⊎ ((slice_index_or ready (leaf_at layout.leaves leaf).task false ≡ true) ⊎ (0 < (hold (account seat) (leaf_at layout.leaves leaf).task).tokens))) seats
+        ⊎ (is_ready (leaf_at layout.leaves leaf).task ⊎ (0 < (hold (account seat) (leaf_at layout.leaves leaf).task).tokens))) seats
+
+  -- by the states and the answers of the end
+  abbrev pub IsHeard : Layout → List (Seat (Option V) (List Account)) → List V → List Bool → Type 0
+  IsHeard layout seats states ready = NoneWaits layout seats (λ source state. slice_get states source ≡ Some state) (λ task. slice_index_or ready task false ≡ true)
+
+-- a task is to be polled exactly where it was told once more than it was found told, the start counted
+pub record IsReadyList {V : Type 0} (layout : Layout) (seats : List (Seat (Option V) (List Account))) (ready : List Bool) : Type 0 where
+  pub all : length ready ≡ length layout.pollers
+  pub each : (task : ℕ) → task < length layout.pollers →
+      slice_index_or ready task false ≡ (sum_by (λ seat. (hold (account seat) task).found) seats == sum_by (λ seat. (hold (account seat) task).raised) seats)

@@ -69,7 +69,7 @@ module _ {V : Type 0} where
 
   -- at a task's ready word
   abbrev pub IsTelling : ℕ → Step (Option V) → Seated V → ℕ → Seated V → Type 0
-  IsTelling task step old word new = Stands new (after_tell (account_of old.0) task) old.1
+  IsTelling task step old word new = Stands new (after_tell (account_of old.0) task (word == 1)) old.1
 
   abbrev pub IsCollecting : List LeafPlan → ℕ → Step (Option V) → Seated V → ℕ → Seated V → Type 0
   IsCollecting leaves task step old word new = Stands new (after_collect leaves (account_of old.0) task (word == 1)) old.1

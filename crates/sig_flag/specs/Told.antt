@@ -2,7 +2,7 @@
 -- Its first half is on turns. The second is on bells, and says that no task that waits is left untold. A leaf whose bell was set has a bell
 -- that is still to be rung, or its task is stirred: it is told, or somebody has yet to tell it. A leaf whose source was looked at after that besides
 -- is up to date, or somebody has yet to ring, or its task is stirred. And both hold for a leaf whose task waits, or the task has a token.
-use Rattle.std.specs.Prelude.{◌≡◌, ◌≢◌, ℕ, ◌<◌, ◌≤◌, List, length, slice_index, true, Option, ◌⊎◌}
+use Rattle.std.specs.Prelude.{◌≡◌, ◌≢◌, ℕ, ◌+◌, ◌<◌, ◌≤◌, List, length, slice_index, sum_by, true, Option, ◌⊎◌}
 use Rattle.sig_flag.specs.Accounts.{plan_at, watch, hold}
 use Rattle.sig_flag.specs.Layouts.{Layout, leaf_at, bell_of, ready_of, words_of, poller_of}
 use Rattle.sig_flag.specs.Turns.{HasTurns}
@@ -59,9 +59,16 @@ module _ (layout : Layout) (words : List ℕ) (views : List (List Account)) (his
     pub each : (leaf : ℕ) → leaf < length layout.leaves → IsWatched leaf (hold account (leaf_at layout.leaves leaf).task).tokens (watch account leaf).condition
     pub others : (leaf : ℕ) → leaf < length layout.leaves → account.number ≢ poller_of layout leaf → (watch account leaf).condition ≡ Idle
 
+-- a number of an account, added up over all views
+abbrev pub total : (Account → ℕ) → List (List Account) → ℕ
+total number views = sum_by (λ accounts. sum_by number accounts) views
+
 pub record Told {V : Type 0} (plan_of : V → SourcePlan) (history_of : V → List Entry) (layout : Layout) (s : State (Option V) (List Account)) : Type 0 where
   pub turns : HasTurns plan_of history_of layout.plans layout.seats s
   pub wide : words_of layout ≤ length s.words
   -- bells and ready words are 0 or 1
   pub bits : (place : ℕ) → length layout.plans ≤ place → place < words_of layout → slice_index s.words place ≤ 1
+  -- each task is told at the start, and its ready word tells whether it was told once more than it was found told
+  pub counts : (task : ℕ) → task < length layout.pollers →
+      slice_index s.words (ready_of layout task) + total (λ account. (hold account task).found) s.views ≡ 1 + total (λ account. (hold account task).raised) s.views
   pub watching : (view at : ℕ) (all : List Account) (account : Account) → get_elem? s.views view ≡ slot.some all → get_elem? all at ≡ slot.some account → IsWatching layout s.words s.views turns.history account

@@ -24,6 +24,10 @@ pub struct Hold {
     pub tokens: u64,
     /// How often it found none.
     pub missed: u64,
+    /// How often it told the task, while that wasn't told.
+    pub raised: u64,
+    /// How often it found that the task was told.
+    pub found: u64,
 }
 
 /// What a seat knows and has. No value of it is made; a list stands as an array.

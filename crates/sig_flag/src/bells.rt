@@ -46,15 +46,15 @@ impl<V: Kept> Flags<V> {
         self.ring_one::<Brand>(seat, leaf)
     }
 
-    /// Tells a task, as a seat has to that found the bell of one of its leaves set.
-    pub fn tell(&self, seat: &mut FlagSeat<V>, task: usize)
+    /// Tells a task, as a seat has to that found the bell of one of its leaves set: whether it was told already.
+    pub fn tell(&self, seat: &mut FlagSeat<V>, task: usize) -> bool
         requires seat { Sits self.now seat.old }
         requires task { task < length self.now.layout.pollers }
         requires owed { is_among task (account seat.old).tells ≡ true }
         ensures seat { IsSameSeat seat.old seat.new }
-        ensures account { Has seat.new (after_tell (account seat.old) task) seat.old.me.1 }
+        ensures account { Has seat.new (after_tell (account seat.old) task result) seat.old.me.1 }
     {
-        self.tell_one::<Brand>(seat, task);
+        self.tell_one::<Brand>(seat, task)
     }
 
     /// Whether a task that the seat polls was told since this was asked last. If so, the seat has one token of it more, and none of its leaves
@@ -103,15 +103,15 @@ impl<V: Kept> Flags<V> {
         self.table.shared.swap::<Ring<N>>(seat, bell, 0) == 1
     }
 
-    fn tell_one<N: Numbered>(&self, seat: &mut FlagSeat<V>, task: usize)
+    fn tell_one<N: Numbered>(&self, seat: &mut FlagSeat<V>, task: usize) -> bool
         requires seat { Sits self.now seat.old }
         requires task { task < length self.now.layout.pollers }
         requires number { task ≡ N.number }
         ensures seat { IsSameSeat seat.old seat.new }
-        ensures account { Has seat.new (after_tell (account seat.old) task) seat.old.me.1 }
+        ensures account { Has seat.new (after_tell (account seat.old) task result) seat.old.me.1 }
     {
         let ready = self.ready_word(task);
-        self.table.shared.store::<Tell<N>>(seat, ready, 1);
+        self.table.shared.swap::<Tell<N>>(seat, ready, 1) == 1
     }
 
     fn collect_one<N: Numbered>(&self, seat: &mut FlagSeat<V>, task: usize) -> bool

@@ -1,7 +1,7 @@
 //! How a machine ends: its seats are made one, and the states are taken out of the slots.
 ghost use Rattle.std.specs.Prelude.{◌≡◌, ◌+◌, ◌<◌, ◌≤◌, ◌++◌, [], length, map, vec_capacity, All};
 ghost use Rattle.std.specs.Mem.Slots.{slots_items, slots_len, IsFull};
-ghost use Rattle.sig_flag.specs.Closing.{Rests, AreHome, AreTaken, AreReady, IsShut, AreHeard};
+ghost use Rattle.sig_flag.specs.Closing.{Rests, AreHome, AreTaken, AreReady, AreCounted, IsShut, AreHeard};
 ghost use Rattle.sig_flag.specs.Layouts.{IsLeafOf};
 ghost use Rattle.sig_flag.specs.Machines.{account, HasNoTurn};
 ghost use Rattle.sig_flag.specs.Opening.{layout_of};
@@ -43,6 +43,7 @@ pub fn shut<V: Kept>(table: FlagTable<V>, mut seats: FlagSeats<V>) -> Closed<Opt
     ensures full { IsFull result.slots × IsFull result.words }
     ensures words { slots_len result.words ≡ table.shared.table_id.words }
     ensures slots { IsShut V.plan V.history (map V.plan table.shared.key.states.value) seats (slots_items result.slots) }
+    ensures counted { AreCounted (layout_of V.plan table.shared.key) seats (slots_items result.words) }
     ensures heard { AreHeard V.plan V.history (layout_of V.plan table.shared.key) seats (slots_items result.words) (slots_items result.slots) }
 {
     match seats.pop() {

@@ -1,7 +1,7 @@
 ghost use Rattle.std.specs.Prelude.{◌≡◌, ◌<◌, length, [], ◌∷◌, None, Some, All, IfOk};
 ghost use Rattle.sig_flag.specs.Accounts.{known, after_look, after_give};
 ghost use Rattle.sig_flag.specs.Layouts.{IsLeafOf};
-ghost use Rattle.sig_flag.specs.Machines.{account, Sits, IsSameSeat, HasNoTurn, HasTurn, Has, IsShown, IsTake, MayGive, IsShape, IsMade, IsHeard, AreBack, IsEnd};
+ghost use Rattle.sig_flag.specs.Machines.{account, Sits, IsSameSeat, HasNoTurn, HasTurn, Has, IsShown, IsTake, MayGive, IsShape, IsMade, IsReadyList, IsHeard, AreBack, IsEnd};
 
 use crate::accounts::Account;
 use crate::closing::{ClosingRoom, ready_tasks, shut, take_all};
@@ -172,6 +172,7 @@ impl<V: Kept> Flags<V> {
     pub fn close(self, seats: FlagSeats<V>) -> (States<V>, ReadyList)
         requires { AreBack self seats }
         ensures states { IsEnd V.plan V.history self seats result.0 }
+        ensures ready { IsReadyList self.layout seats result.1 }
         ensures heard { IsHeard V.plan V.history self.layout seats result.0 result.1 }
     {
         let Flags {
