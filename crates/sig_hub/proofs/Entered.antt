@@ -119,11 +119,11 @@ module _ (number : ℕ) (old mid : PassSeat) (source : ℕ) (state : Source) (is
     first_knows = set (account old).knows source (record { plan = (known (account old) source).plan; seen = state.history; count = length state.history; own = (known (account old) source).own })
 
     last_account : Account
-    last_account = record (after_give [] (after_turn (record (account old) { met = taken.met }) source state.history) source after.history) { rings = []; tells = [] }
+    last_account = record (after_give [] (after_turn (record (account old) { met = taken.met }) source state.history) source after.history) { holds = given.has.holds; rings = []; tells = [] }
 
     is_last : account new ≡ last_account
     unfolding last_account
-    is_last = (reads new _ _ given.has).is ∙ ap (λ (a : Account). record (after_give [] a source after.history) { rings = []; tells = [] }) (reads mid _ _ taken.has).is
+    is_last = (reads new _ _ given.has.has).is ∙ ap (λ (a : Account). record (after_give [] a source after.history) { holds = given.has.holds; rings = []; tells = [] }) (reads mid _ _ taken.has).is
 
     pub is_after : IsAfter number old new source after.history
     unfolding last_account
@@ -133,7 +133,7 @@ module _ (number : ℕ) (old mid : PassSeat) (source : ℕ) (state : Source) (is
         let turned_is : known turned source ≡ record { plan = (known (account old) source).plan; seen = state.history; count = length state.history; own = (known (account old) source).own } =
         get_or-set_same (account old).knows source _ _ within in
         let back : (account old).number ≡ number = sym is_number in
-        let now = reads new _ _ given.has in
+        let now = reads new _ _ given.has.has in
         record {
           hub = given.same.same_table ∙ same.same_table;
           at_rest = record {

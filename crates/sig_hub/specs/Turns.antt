@@ -1,10 +1,11 @@
 -- What the seat of a pass goes through in the turn of a source.
-use Rattle.std.specs.Prelude.{◌≡◌, ◌≢◌, ◌<◌, ◌==◌, ℕ, List, [], ◌∷◌, length, take, drop, Bool, not, Option, ◌⊎◌}
+use Rattle.std.specs.Prelude.{◌≡◌, ◌≢◌, ◌<◌, ◌≤◌, ◌==◌, ℕ, List, [], ◌∷◌, length, take, drop, slice_index_or, Bool, not, Option, ◌⊎◌}
 use Rattle.atomic_table.specs.declared.shared.Seat.{Seat}
-use Rattle.sig_flag.specs.Accounts.{known, after_turn, after_give, leaves_on}
+use Rattle.sig_flag.specs.Accounts.{known, no_hold, after_turn, after_give, leaves_on}
 use Rattle.sig_flag.specs.Layouts.{Layout, leaf_at}
 use Rattle.sig_flag.specs.Machines.{account, Has, IsMet, IsNext, IsSameSeat}
 use Rattle.sig_flag.specs.declared.accounts.Account.{Account}
+use Rattle.sig_flag.specs.declared.accounts.Hold.{Hold}
 use Rattle.sig_flag.specs.declared.shape.LeafPlan.{LeafPlan}
 use Rattle.sig_hist.specs.Histories.{own_entries}
 use Rattle.sig_hist.specs.Sources.{Source, is_among}
@@ -43,20 +44,37 @@ pub record MayEnd (a : Account) (source : ℕ) (state : Source) : Type 0 where
 abbrev pub has_come : Account → ℕ → Source → Bool
 has_come a source state = not (length state.history == length (known a source).seen)
 
+-- of a task nothing changed but how often it was told, and that is no less
+pub record IsToldMore (old new : Hold) : Type 0 where
+  pub tokens : new.tokens ≡ old.tokens
+  pub missed : new.missed ≡ old.missed
+  pub found : new.found ≡ old.found
+  pub raised : old.raised ≤ new.raised
+
+pub record AreToldMore (old new : List Hold) : Type 0 where
+  pub all : length new ≡ length old
+  pub each : (task : ℕ) → IsToldMore (slice_index_or old task no_hold) (slice_index_or new task no_hold)
+
+-- the seat with this account, but that it may have told tasks since, and with this in its slots
+pub record HasTelling (seat : PassSeat) (a : Account) (slots : List (ℕ × Option Source)) : Type 0 where
+  pub holds : List Hold
+  pub told : AreToldMore a.holds holds
+  pub has : Has seat (record a { holds = holds }) slots
+
 -- the seat gave the turn back with this state, and told whom it had to
 pub record HasGiven (old new : PassSeat) (source : ℕ) (state : Source) : Type 0 where
   pub same : IsSameSeat old new
-  pub has : Has new (record (after_give [] (account old) source state.history) { rings = []; tells = [] }) []
+  pub has : HasTelling new (record (after_give [] (account old) source state.history) { rings = []; tells = [] }) []
 
 -- of the leaves of the source the seat has yet to ring those from a number on
 pub record IsRinging (leaves : List LeafPlan) (source from : ℕ) (old new : PassSeat) : Type 0 where
   pub same : IsSameSeat old new
-  pub has : Has new (record (account old) { rings = leaves_on source (drop from leaves) from; tells = [] }) old.me.1
+  pub has : HasTelling new (record (account old) { rings = leaves_on source (drop from leaves) from; tells = [] }) old.me.1
 
 -- the seat has rung and told all
 pub record HasRung (old new : PassSeat) : Type 0 where
   pub same : IsSameSeat old new
-  pub has : Has new (record (account old) { rings = []; tells = [] }) old.me.1
+  pub has : HasTelling new (record (account old) { rings = []; tells = [] }) old.me.1
 
 -- the leaf that the seat is to ring, and its task
 pub record IsNextRing (layout : Layout) (leaf task : ℕ) : Type 0 where

@@ -3,7 +3,7 @@ ghost use Rattle.std.specs.Prelude.{◌≡◌, ◌<◌, [], length, true, None, 
 ghost use Rattle.sig_flag.specs.Accounts.{after_give, leaves_on, struck};
 ghost use Rattle.sig_flag.specs.Machines.{account, Sits, IsSameSeat, Has, HasNoTurn, HasTurn, OwesNothing};
 ghost use Rattle.sig_hist.specs.Sources.{Source, is_among};
-ghost use Rattle.sig_hub.specs.Turns.{HasTaken, MayEnd, HasGiven, HasRung, IsNextRing, has_come};
+ghost use Rattle.sig_hub.specs.Turns.{HasTaken, MayEnd, HasGiven, HasRung, HasTelling, IsNextRing, has_come};
 
 use crossbeam_utils::Backoff;
 use sig_flag::{FlagSeat, Flags, Taken};
@@ -97,7 +97,7 @@ fn ring_one(flags: &HubFlags, seat: &mut HubSeat, leaf: usize, task: usize)
     requires owed { is_among leaf (account seat.old).rings ≡ true }
     requires tells { (account seat.old).tells ≡ [] }
     ensures seat { IsSameSeat seat.old seat.new }
-    ensures has { Has seat.new (record (account seat.old) { rings = struck leaf (account seat.old).rings; tells = [] }) seat.old.me.1 }
+    ensures has { HasTelling seat.new (record (account seat.old) { rings = struck leaf (account seat.old).rings; tells = [] }) seat.old.me.1 }
 {
     if flags.ring(seat, leaf) {
         flags.tell(seat, task);
