@@ -6,7 +6,7 @@ ghost use Rattle.sig_flag.specs.Machines.{account, Sits, IsSameSeat, Has, IsShow
 ghost use Rattle.sig_hist.specs.Sources.{is_among};
 
 use crate::flags::{FlagSeat, Flags};
-use crate::plays::{Arm, Collect, Known, LastLook, Numbered, Ring, Tell};
+use crate::plays::{About, Arm, Collect, LastLook, Ring, Tell};
 use crate::words::version_in;
 use sig_hist::{Kept, Version};
 use std::marker::Brand;
@@ -68,62 +68,62 @@ impl<V: Kept> Flags<V> {
         self.collect_one::<Brand>(seat, task)
     }
 
-    fn look_knowing<K: Known>(&self, seat: &mut FlagSeat<V>, leaf: usize, at: u32) -> Version
+    fn look_knowing<A: About>(&self, seat: &mut FlagSeat<V>, leaf: usize, at: u32) -> Version
         requires seat { Sits self.now seat.old }
         requires leaf { leaf < length self.now.layout.leaves }
-        requires known { (self.now.layout.leaves ≡ K.leaves) × (leaf ≡ K.leaf) × (at ≡ K.at) }
+        requires known { (self.now.layout.leaves ≡ A.leaves) × (leaf ≡ A.number) × (at ≡ A.at) }
         ensures seat { IsSameSeat seat.old seat.new }
         ensures account { Has seat.new (after_last_look self.now.layout.leaves (account seat.old) leaf at result) seat.old.me.1 }
         ensures shown { IsShown (known (account seat.old) (leaf_at self.now.layout.leaves leaf).source) result }
     {
         let source = self.leaves.as_slice()[leaf].source as usize;
-        version_in(self.table.shared.load::<LastLook<K>>(seat, source))
+        version_in(self.table.shared.load::<LastLook<A>>(seat, source))
     }
 
-    fn arm_one<N: Numbered>(&self, seat: &mut FlagSeat<V>, leaf: usize)
+    fn arm_one<A: About>(&self, seat: &mut FlagSeat<V>, leaf: usize)
         requires seat { Sits self.now seat.old }
         requires polled { IsPolledBy self.now.layout leaf (account seat.old).number }
-        requires number { leaf ≡ N.number }
+        requires number { leaf ≡ A.number }
         ensures seat { IsSameSeat seat.old seat.new }
         ensures account { Has seat.new (after_arm (account seat.old) leaf) seat.old.me.1 }
     {
         let bell = self.bell_word(leaf);
-        self.table.shared.store::<Arm<N>>(seat, bell, 1);
+        self.table.shared.store::<Arm<A>>(seat, bell, 1);
     }
 
-    fn ring_one<N: Numbered>(&self, seat: &mut FlagSeat<V>, leaf: usize) -> bool
+    fn ring_one<A: About>(&self, seat: &mut FlagSeat<V>, leaf: usize) -> bool
         requires seat { Sits self.now seat.old }
         requires leaf { leaf < length self.now.layout.leaves }
-        requires leaves { self.now.layout.leaves ≡ N.leaves }
-        requires number { leaf ≡ N.number }
+        requires leaves { self.now.layout.leaves ≡ A.leaves }
+        requires number { leaf ≡ A.number }
         ensures seat { IsSameSeat seat.old seat.new }
         ensures account { Has seat.new (after_ring self.now.layout.leaves (account seat.old) leaf result) seat.old.me.1 }
     {
         let bell = self.bell_word(leaf);
-        self.table.shared.swap::<Ring<N>>(seat, bell, 0) == 1
+        self.table.shared.swap::<Ring<A>>(seat, bell, 0) == 1
     }
 
-    fn tell_one<N: Numbered>(&self, seat: &mut FlagSeat<V>, task: usize) -> bool
+    fn tell_one<A: About>(&self, seat: &mut FlagSeat<V>, task: usize) -> bool
         requires seat { Sits self.now seat.old }
         requires task { task < length self.now.layout.pollers }
-        requires number { task ≡ N.number }
+        requires number { task ≡ A.number }
         ensures seat { IsSameSeat seat.old seat.new }
         ensures account { Has seat.new (after_tell (account seat.old) task result) seat.old.me.1 }
     {
         let ready = self.ready_word(task);
-        self.table.shared.swap::<Tell<N>>(seat, ready, 1) == 1
+        self.table.shared.swap::<Tell<A>>(seat, ready, 1) == 1
     }
 
-    fn collect_one<N: Numbered>(&self, seat: &mut FlagSeat<V>, task: usize) -> bool
+    fn collect_one<A: About>(&self, seat: &mut FlagSeat<V>, task: usize) -> bool
         requires seat { Sits self.now seat.old }
         requires polled { IsTaskOf self.now.layout task (account seat.old).number }
-        requires leaves { self.now.layout.leaves ≡ N.leaves }
-        requires number { task ≡ N.number }
+        requires leaves { self.now.layout.leaves ≡ A.leaves }
+        requires number { task ≡ A.number }
         ensures seat { IsSameSeat seat.old seat.new }
         ensures account { Has seat.new (after_collect self.now.layout.leaves (account seat.old) task result) seat.old.me.1 }
     {
         let ready = self.ready_word(task);
-        self.table.shared.swap::<Collect<N>>(seat, ready, 0) == 1
+        self.table.shared.swap::<Collect<A>>(seat, ready, 0) == 1
     }
 
     fn bell_word(&self, leaf: usize) -> usize

@@ -6,7 +6,7 @@ ghost use Rattle.sig_flag.specs.Machines.{account, Sits, IsSameSeat, HasNoTurn, 
 use crate::accounts::Account;
 use crate::closing::{ClosingRoom, ready_tasks, shut, take_all};
 use crate::opening::{deal, open};
-use crate::plays::{Among, Give, Look, Take};
+use crate::plays::{About, Give, Look, Take};
 use crate::rule::{FlagKey, ToldRule};
 use crate::shape::{FlagShape, LeafPlan, LeafPlans};
 use crate::words::{is_held, version_in, word_of};
@@ -191,7 +191,7 @@ impl<V: Kept> Flags<V> {
         )
     }
 
-    fn look_among<A: Among>(&self, seat: &mut FlagSeat<V>, source: usize) -> Version
+    fn look_among<A: About>(&self, seat: &mut FlagSeat<V>, source: usize) -> Version
         requires seat { Sits self.now seat.old }
         requires source { source < length self.now.layout.plans }
         requires leaves { self.now.layout.leaves ≡ A.leaves }
@@ -202,7 +202,7 @@ impl<V: Kept> Flags<V> {
         version_in(self.table.shared.load::<Look<A>>(seat, source))
     }
 
-    fn give_among<A: Among>(&self, seat: &mut FlagSeat<V>, source: usize, count: u32, closed: bool)
+    fn give_among<A: About>(&self, seat: &mut FlagSeat<V>, source: usize, count: u32, closed: bool)
         requires seat { Sits self.now seat.old }
         requires source { source < length self.now.layout.plans }
         requires state { (state : V) × HasTurn seat.old source (Some state) × MayGive V.plan V.history (account seat.old) source count closed state }

@@ -8,20 +8,29 @@ use atomic_table::{Join, Play, Split};
 use sig_hist::Kept;
 use std::marker::{Brand, PhantomData};
 
-/// The leaves of a machine, of which a step tells.
-pub trait Among {
+/// What a step is about, as far as a play can't read it: the leaves of the machine, the leaf or the task, and how many entries of the leaf's
+/// source are known.
+pub trait About {
     ghost leaves: { List LeafPlan };
+
+    ghost number: { ℕ };
+
+    ghost at: { ℕ };
 }
 
-impl Among for Brand {
+impl About for Brand {
     ghost leaves = { [] };
+
+    ghost number = { 0 };
+
+    ghost at = { 0 };
 }
 
 pub struct Look<A> {
     leaves: PhantomData<A>,
 }
 
-impl<V, A: Among> Play<Option<V>, [Account; 0]> for Look<A> {
+impl<V, A: About> Play<Option<V>, [Account; 0]> for Look<A> {
     ghost then = { IsLook A.leaves };
 }
 
@@ -37,78 +46,48 @@ pub struct Give<V, A> {
     state: PhantomData<(V, A)>,
 }
 
-impl<V: Kept, A: Among> Play<Option<V>, [Account; 0]> for Give<V, A> {
+impl<V: Kept, A: About> Play<Option<V>, [Account; 0]> for Give<V, A> {
     ghost then = { IsGiving V.plan V.history A.leaves };
 }
 
-/// The leaf or the task that a step is about, of which it has the number, and the leaves of its machine.
-pub trait Numbered {
-    ghost leaves: { List LeafPlan };
-
-    ghost number: { ℕ };
+pub struct Arm<A> {
+    leaf: PhantomData<A>,
 }
 
-impl Numbered for Brand {
-    ghost leaves = { [] };
-
-    ghost number = { 0 };
+impl<V, A: About> Play<Option<V>, [Account; 0]> for Arm<A> {
+    ghost then = { IsArming A.number };
 }
 
-pub struct Arm<N> {
-    leaf: PhantomData<N>,
+pub struct Ring<A> {
+    leaf: PhantomData<A>,
 }
 
-impl<V, N: Numbered> Play<Option<V>, [Account; 0]> for Arm<N> {
-    ghost then = { IsArming N.number };
+impl<V, A: About> Play<Option<V>, [Account; 0]> for Ring<A> {
+    ghost then = { IsRinging A.leaves A.number };
 }
 
-pub struct Ring<N> {
-    leaf: PhantomData<N>,
+pub struct Tell<A> {
+    task: PhantomData<A>,
 }
 
-impl<V, N: Numbered> Play<Option<V>, [Account; 0]> for Ring<N> {
-    ghost then = { IsRinging N.leaves N.number };
+impl<V, A: About> Play<Option<V>, [Account; 0]> for Tell<A> {
+    ghost then = { IsTelling A.number };
 }
 
-pub struct Tell<N> {
-    task: PhantomData<N>,
+pub struct Collect<A> {
+    task: PhantomData<A>,
 }
 
-impl<V, N: Numbered> Play<Option<V>, [Account; 0]> for Tell<N> {
-    ghost then = { IsTelling N.number };
+impl<V, A: About> Play<Option<V>, [Account; 0]> for Collect<A> {
+    ghost then = { IsCollecting A.leaves A.number };
 }
 
-pub struct Collect<N> {
-    task: PhantomData<N>,
+pub struct LastLook<A> {
+    leaf: PhantomData<A>,
 }
 
-impl<V, N: Numbered> Play<Option<V>, [Account; 0]> for Collect<N> {
-    ghost then = { IsCollecting N.leaves N.number };
-}
-
-/// A leaf, how many entries of its source are known, and the leaves of its machine.
-pub trait Known {
-    ghost leaves: { List LeafPlan };
-
-    ghost leaf: { ℕ };
-
-    ghost at: { ℕ };
-}
-
-impl Known for Brand {
-    ghost leaves = { [] };
-
-    ghost leaf = { 0 };
-
-    ghost at = { 0 };
-}
-
-pub struct LastLook<K> {
-    known: PhantomData<K>,
-}
-
-impl<V, K: Known> Play<Option<V>, [Account; 0]> for LastLook<K> {
-    ghost then = { IsLastLook K.leaves K.leaf K.at };
+impl<V, A: About> Play<Option<V>, [Account; 0]> for LastLook<A> {
+    ghost then = { IsLastLook A.leaves A.number A.at };
 }
 
 /// The first account goes to a seat of its own.

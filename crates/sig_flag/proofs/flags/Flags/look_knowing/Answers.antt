@@ -10,5 +10,5 @@ load-requires g c =
     let is = has_leaf _ _ _ _ c.args.leaf _ c.self.view_is c.self.invariant.0 c.requires.leaf (c.as_slice.ensures ∙ c.self.invariant.1) in (
       same_table _ _ _ c.self.view_is c.requires.seat,
       is.1.word,
-      last_looks _ _ _ _ _ _ _ _ (ap (λ (m : Machine). m.layout.leaves) c.self.view_is ∙ c.requires.known.0) g.K.Known.leaf g.K.Known.at is.1.plan (ap (λ (k : _). (leaf_at c.self.inside.table.shared.key.leaves.value k).source) (sym c.requires.known.1) ∙ is.0) c.requires.seat.one_account,
+      last_looks _ _ _ _ _ _ _ _ (ap (λ (m : Machine). m.layout.leaves) c.self.view_is ∙ c.requires.known.0) g.A.About.number g.A.About.at is.1.plan (ap (λ (k : _). (leaf_at c.self.inside.table.shared.key.leaves.value k).source) (sym c.requires.known.1) ∙ is.0) c.requires.seat.one_account,
     )

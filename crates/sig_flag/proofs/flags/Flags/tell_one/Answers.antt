@@ -5,4 +5,4 @@ use Rattle.sig_flag.proofs.flags.Flags.tell_one.Goals as goal
 pub swap-requires : goal.swap-requires
 swap-requires g c =
     let is = has_ready _ _ _ _ _ _ c.self.view_is c.self.invariant.0 c.requires.task c.ready_word-ready.ensures in
-    (same_table _ _ _ c.self.view_is c.requires.seat, is.2, tells _ _ _ _ _ _ c.requires.seat.one_account g.N.Numbered.leaves _ _ c.args.task c.requires.number is.1 is.0)
+    (same_table _ _ _ c.self.view_is c.requires.seat, is.2, tells _ _ _ _ _ _ c.requires.seat.one_account g.A.About.leaves _ _ c.args.task c.requires.number is.1 is.0)
