@@ -1,1 +1,2 @@
+mod Edited
 pub mod Seeing

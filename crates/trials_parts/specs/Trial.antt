@@ -3,7 +3,7 @@ use Rattle.std.specs.Prelude.{◌≡◌, ◌<◌, ℕ, pos, List, [], ◌∷◌,
 use Rattle.atomic_table.specs.declared.shared.Seat.{Seat}
 use Rattle.sig_diff.specs.declared.contents.Content.TheVariants.{Cell}
 use Rattle.sig_flag.specs.Accounts.{known}
-use Rattle.sig_flag.specs.Machines.{Machine, account, Sits, HasNoTurn, HasTurn, IsPolledBy, IsTaskOf}
+use Rattle.sig_flag.specs.Machines.{Machine, account, Sits, HasNoTurn, HasTurn, OwesNothing, IsPolledBy, IsTaskOf}
 use Rattle.sig_flag.specs.declared.accounts.Account.{Account}
 use Rattle.sig_flag.specs.declared.shape.FlagShape.{FlagShape}
 use Rattle.sig_hist.specs.Histories.{ends_with_leave}
@@ -14,7 +14,7 @@ abbrev pub trial_plan : SourcePlan
 trial_plan = record {
   start = Cell (pos 5);
   cap = 1;
-  allow = record { writer = 0; edits = 2 } ∷ record { writer = 1; edits = 2 } ∷ [];
+  allow = record { writer = 0; edits = 3 } ∷ record { writer = 1; edits = 3 } ∷ [];
 }
 
 abbrev pub trial_source : Source
@@ -30,12 +30,23 @@ trial_shape = record {
 }
 
 -- a seat without a turn, of which the writer with this number hasn't left
-pub record IsReady (machine : Machine) (caller : ℕ) (seat : Seat (Option Source) (List Account)) : Type 0 where
+pub record IsIdle (machine : Machine) (caller : ℕ) (seat : Seat (Option Source) (List Account)) : Type 0 where
   pub sits : Sits machine seat
   pub rests : HasNoTurn seat
   pub number : (account seat).number ≡ caller
   pub writer : is_among caller (writers_of (known (account seat) 0).plan.allow) ≡ true
   pub stays : ends_with_leave (known (account seat) 0).own ≡ false
+
+-- it has nothing to ring and nothing to tell
+pub record IsReady (machine : Machine) (caller : ℕ) (seat : Seat (Option Source) (List Account)) : Type 0 where
+  pub idle : IsIdle machine caller seat
+  pub nothing : OwesNothing seat
+
+-- it has to ring the leaf's bell
+pub record IsOwing (machine : Machine) (caller : ℕ) (seat : Seat (Option Source) (List Account)) : Type 0 where
+  pub idle : IsIdle machine caller seat
+  pub ring : (account seat).rings ≡ 0 ∷ []
+  pub no_tell : (account seat).tells ≡ []
 
 -- a seat with the cell's turn, and its state in the slot
 pub record IsAtWork (machine : Machine) (caller : ℕ) (seat : Seat (Option Source) (List Account)) : Type 0 where
@@ -46,14 +57,11 @@ pub record IsAtWork (machine : Machine) (caller : ℕ) (seat : Seat (Option Sour
   pub plan : state.plan ≡ (known (account seat) 0).plan
   pub history : state.history ≡ (known (account seat) 0).seen
   pub is_in : IsIn state caller
-
--- a seat that is back
-pub record IsBack (machine : Machine) (seat : Seat (Option Source) (List Account)) : Type 0 where
-  pub sits : Sits machine seat
-  pub rests : HasNoTurn seat
+  pub nothing : OwesNothing seat
 
 pub record IsTrial (machine : Machine) (first second : Seat (Option Source) (List Account)) : Type 0 where
   pub some_source : 0 < length machine.layout.plans
+  pub of_leaves : machine.layout.leaves ≡ trial_shape.leaves
   pub of_seats : machine.layout.seats ≡ 2
   pub leaf : IsPolledBy machine.layout 0 1
   pub task : IsTaskOf machine.layout 0 1

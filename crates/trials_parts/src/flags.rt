@@ -1,6 +1,6 @@
 ghost use Rattle.std.specs.Prelude.{◌≡◌, ◌<◌, ◌∷◌, [], length, IfOk};
 ghost use Rattle.sig_flag.specs.Machines.{IsPolledBy, IsTaskOf};
-ghost use Rattle.trials_parts.specs.Trial.{trial_source, trial_shape, IsReady, IsAtWork, IsBack, IsTrial};
+ghost use Rattle.trials_parts.specs.Trial.{trial_source, trial_shape, IsReady, IsAtWork, IsOwing, IsTrial};
 
 use crate::fixtures::{list, two};
 use sig_diff::{Content, Items};
@@ -18,7 +18,7 @@ type Seat = FlagSeat<SourceState>;
 fn cells(alloc: Global) -> Result<Items<SourceState>, Fail>
     ensures { IfOk result (λ states. states ≡ trial_source ∷ []) }
 {
-    let by = |writer| Allowance { writer, edits: 2 };
+    let by = |writer| Allowance { writer, edits: 3 };
     let plan = SourcePlan {
         start: Content::Cell(5),
         cap: 1,
@@ -80,8 +80,9 @@ fn find_held<R: Abort>(rt: &R, flags: &Machine, seat: &mut Seat)
 /// Sets the cell's number, and gives the turn back.
 fn set(flags: &Machine, seat: &mut Seat) -> Result<(), Fail>
     requires some_source { 0 < length flags.now.layout.plans }
+    requires leaves { flags.now.layout.leaves ≡ trial_shape.leaves }
     requires at_work { IsAtWork flags.now 0 seat.old }
-    ensures { IfOk result (λ _. IsBack flags.now seat.new) }
+    ensures { IfOk result (λ _. IsOwing flags.now 0 seat.new) }
 {
     let mut state = flags.out(seat, 0);
     state.edit(0, &Edit::Set(9))?;
@@ -113,17 +114,29 @@ fn rest<R: Abort>(rt: &R, flags: &Machine, seat: &mut Seat, wanted: u32)
     assert_eq!(rt; flags.look_last(seat, 0, 0).count, wanted);
 }
 
-/// Rings the leaf's bell, and tells the task if it was set.
-fn ring<R: Abort>(rt: &R, flags: &Machine, seat: &mut Seat, wanted: bool)
+/// Rings the leaf's bell, which was set, and tells the task.
+fn ring_set<R: Abort>(rt: &R, flags: &Machine, seat: &mut Seat, was_told: bool)
     requires leaf { IsPolledBy flags.now.layout 0 1 }
+    requires leaves { flags.now.layout.leaves ≡ trial_shape.leaves }
     requires task { IsTaskOf flags.now.layout 0 1 }
-    requires back { IsBack flags.now seat.old }
-    ensures { IsBack flags.now seat.new }
+    requires owing { IsOwing flags.now 0 seat.old }
+    ensures { IsReady flags.now 0 seat.new }
 {
-    let was_set = flags.ring(seat, 0);
-    assert_eq!(rt; was_set, wanted);
-    if was_set {
-        flags.tell(seat, 0);
+    if flags.ring(seat, 0) {
+        assert_eq!(rt; flags.tell(seat, 0), was_told);
+    } else {
+        panic!(rt; "the bell wasn't set");
+    }
+}
+
+/// Rings the leaf's bell, which wasn't set.
+fn ring_unset<R: Abort>(rt: &R, flags: &Machine, seat: &mut Seat)
+    requires leaf { IsPolledBy flags.now.layout 0 1 }
+    requires owing { IsOwing flags.now 0 seat.old }
+    ensures { IsReady flags.now 0 seat.new }
+{
+    if flags.ring(seat, 0) {
+        panic!(rt; "the bell was set");
     }
 }
 
@@ -136,9 +149,14 @@ fn a_task_that_waits_is_told_once(rt: HostRuntime) -> Result<(), Fail> {
     begin(&rt, &flags, &mut first);
     find_held(&rt, &flags, &mut second);
     set(&flags, &mut first)?;
-    ring(&rt, &flags, &mut first, true);
-    ring(&rt, &flags, &mut first, false);
+    ring_set(&rt, &flags, &mut first, false);
     rest(&rt, &flags, &mut second, 1);
+    begin(&rt, &flags, &mut first);
+    set(&flags, &mut first)?;
+    ring_set(&rt, &flags, &mut first, true);
+    begin(&rt, &flags, &mut first);
+    set(&flags, &mut first)?;
+    ring_unset(&rt, &flags, &mut first);
     find_told(&rt, &flags, &mut second, true);
     find_told(&rt, &flags, &mut second, false);
     let (states, ready) = flags.close(two(rt.alloc(), first, second)?);

@@ -35,19 +35,25 @@ ready : (machine : Machine) (caller : ℕ) (seat : Sitting) →
 ready machine caller seat layout writer is =
     let has = is.1 ∙ ap (λ (all : Layout). (opening_account all caller ∷ [], [])) layout in
     record {
-      sits = record {
-        at_table = is.0;
-        one_account = ap (λ (m : Holding). m.0) has ∙ sym (ap (λ (m : Holding). account_of m.0 ∷ []) has);
+      idle = record {
+        sits = record {
+          at_table = is.0;
+          one_account = ap (λ (m : Holding). m.0) has ∙ sym (ap (λ (m : Holding). account_of m.0 ∷ []) has);
+        };
+        rests = record {
+          no_turn = ap (λ (m : Holding). (account_of m.0).turn) has;
+          no_state = ap (λ (m : Holding). m.1) has;
+        };
+        number = ap (λ (m : Holding). (account_of m.0).number) has;
+        writer =
+            let may : Holding → Type 0 = λ m. is_among caller (writers_of (known (account_of m.0) 0).plan.allow) ≡ true in
+            subst may (sym has) writer;
+        stays = ap (λ (m : Holding). ends_with_leave (known (account_of m.0) 0).own) has;
       };
-      rests = record {
-        no_turn = ap (λ (m : Holding). (account_of m.0).turn) has;
-        no_state = ap (λ (m : Holding). m.1) has;
+      nothing = record {
+        no_ring = ap (λ (m : Holding). (account_of m.0).rings) has;
+        no_tell = ap (λ (m : Holding). (account_of m.0).tells) has;
       };
-      number = ap (λ (m : Holding). (account_of m.0).number) has;
-      writer =
-          let may : Holding → Type 0 = λ m. is_among caller (writers_of (known (account_of m.0) 0).plan.allow) ≡ true in
-          subst may (sym has) writer;
-      stays = ap (λ (m : Holding). ends_with_leave (known (account_of m.0) 0).own) has;
     }
 
 pub returns : goal.returns
@@ -62,6 +68,7 @@ returns c =
     let at = λ (k : ℕ). ap (λ (all : List Sitting). slice_get all k) seats in
     record {
       some_source = subst (λ (l : Layout). 0 < length l.plans) (sym layout) (omega arith);
+      of_leaves = ap (λ (l : Layout). l.leaves) layout;
       of_seats = ap (λ (l : Layout). l.seats) layout;
       leaf = subst (λ (l : Layout). IsPolledBy l 0 1) (sym layout) (record { within = omega arith; poller = refl });
       task = subst (λ (l : Layout). IsTaskOf l 0 1) (sym layout) (record { within = omega arith; poller = refl });
