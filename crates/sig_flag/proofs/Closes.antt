@@ -102,7 +102,8 @@ module _ {V : Type 0} (plan_of : V → SourcePlan) (history_of : V → List Entr
   heard_without all words slots none = record { each = λ _ _ _ _ _ _ k d near. absurd (omega (arith, ap length none)) }
 
   -- where there is no seat no view has an account
-  nobody : (s : State (Option V) (List Account)) (told : Rule plan_of history_of layout.plans layout.seats s) → layout.seats ≡ 0 → (view : ℕ) (own : List Account) → get_elem? s.views view ≡ slot.some own → own ≡ []
+  nobody : (s : State (Option V) (List Account)) (told : Rule plan_of history_of layout.plans layout.seats s) → layout.seats ≡ 0 →
+      (view : ℕ) (own : List Account) → get_elem? s.views view ≡ slot.some own → own ≡ []
   nobody s told none view [] is = refl
   nobody s told none view (account ∷ own) is = absurd (let few = (told.accounts view 0 (account ∷ own) account is refl).of_seat in omega (arith, none))
 
@@ -141,14 +142,16 @@ module _ {V : Type 0} (plan_of : V → SourcePlan) (history_of : V → List Entr
       numbered : (get_or (map account all) index lone).number ≡ found.number
       here : view ≡ id
 
-    covered : (view place : ℕ) (own : List Account) (found : Account) → get_elem? s.views view ≡ slot.some own → get_elem? own place ≡ slot.some found → IsCovered view found
+    covered : (view place : ℕ) (own : List Account) (found : Account) → get_elem? s.views view ≡ slot.some own →
+        get_elem? own place ≡ slot.some found → IsCovered view found
     covered view place own found is_view is_account =
         let is = told.turns.accounts view place own found is_view is_account in
         let who = (all_there s told.turns id all at counted).covers found.number is.of_seat in
         let index = who.0 in
         let near = who.2 in
         let mine = told.turns.accounts id index (map account all) (get_or (map account all) index lone) at (in_view index near) in
-        let numbered : (get_or (map account all) index lone).number ≡ found.number = ap (λ (a : Account). a.number) (get_or-map account all index who.1 lone near) ∙ who.3 in
+        let numbered : (get_or (map account all) index lone).number ≡ found.number = ap (λ (a : Account). a.number)
+        (get_or-map account all index who.1 lone near) ∙ who.3 in
         record { index = index; default = who.1; near = near; numbered = numbered; here = sym is.at_place ∙ ap told.turns.place (sym numbered) ∙ mine.at_place }
 
     -- each other view is empty
@@ -205,13 +208,16 @@ module _ {V : Type 0} (plan_of : V → SourcePlan) (history_of : V → List Entr
       }
 
   -- what a task's word is, by the totals
-  word_counted : (s : State (Option V) (List Account)) (told : Whole plan_of history_of layout s) (words : List ℕ) (task word found raised : ℕ) → s.words ≡ words → task < length layout.pollers →
-      get_elem? words (ready_of layout task) ≡ slot.some word → total (found_of task) s.views ≡ found → total (raised_of task) s.views ≡ raised → word + found ≡ 1 + raised
+  word_counted : (s : State (Option V) (List Account)) (told : Whole plan_of history_of layout s) (words : List ℕ) (task word found raised : ℕ) →
+      s.words ≡ words → task < length layout.pollers →
+      get_elem? words (ready_of layout task) ≡ slot.some word → total (found_of task) s.views ≡ found → total (raised_of task) s.views ≡ raised →
+      word + found ≡ 1 + raised
   word_counted s told words task word found raised words_are within is found_is raised_is =
       let read : slice_index s.words (ready_of layout task) ≡ word = read_there s.words (ready_of layout task) 0 word (subst (λ (all : List ℕ). get_elem? all (ready_of layout task) ≡ slot.some word) (sym words_are) is) in
       omega (arith, told.counts task within, read, found_is, raised_is)
 
-  pub counted_without : (all : List (Seat (Option V) (List Account))) (words : List ℕ) (slots : List (Option V)) → all ≡ [] → layout.seats ≤ length all → Final (Whole plan_of history_of layout) words slots → AreCounted layout all words
+  pub counted_without : (all : List (Seat (Option V) (List Account))) (words : List ℕ) (slots : List (Option V)) → all ≡ [] →
+      layout.seats ≤ length all → Final (Whole plan_of history_of layout) words slots → AreCounted layout all words
   counted_without all words slots none few final =
       let s = final.0 in
       let told : Whole plan_of history_of layout s = final.1 in
@@ -220,7 +226,8 @@ module _ {V : Type 0} (plan_of : V → SourcePlan) (history_of : V → List Entr
       λ f. total_none f s.views empty ∙ ap (λ (seats : List (Seat (Option V) (List Account))). sum_by (λ seat. f (account seat)) seats) (sym none) in
       record { each = λ task word within is. word_counted s told words task word _ _ final.2 within is (sum_is (found_of task)) (sum_is (raised_of task)) }
 
-  pub counted_with : (id : ℕ) (all : List (Seat (Option V) (List Account))) (view : List Account) (words : List ℕ) (slots : List (Option V)) → view ≡ map account all → layout.seats ≤ length all →
+  pub counted_with : (id : ℕ) (all : List (Seat (Option V) (List Account))) (view : List Account) (words : List ℕ) (slots : List (Option V)) →
+      view ≡ map account all → layout.seats ≤ length all →
       Final (Seen (Whole plan_of history_of layout) id view) words slots → AreCounted layout all words
   counted_with id all view words slots view_is counted final =
       let s = final.0 in
@@ -266,7 +273,8 @@ told_once_more word found raised is = dite (ℕ_discrete found raised)
     (λ same. eq-eqb word 1 (omega arith) ∙ sym (eq-eqb found raised same))
     (λ other. ne_eqb word 1 (λ one. other (omega arith)) ∙ sym (ne_eqb found raised other))
 
-pub ends_ready : {V : Type 0} (layout : Layout) (all : List (Seat (Option V) (List Account))) (words : List ℕ) (ready : List Bool) → words_of layout ≤ length words → AreCounted layout all words →
+pub ends_ready : {V : Type 0} (layout : Layout) (all : List (Seat (Option V) (List Account))) (words : List ℕ) (ready : List Bool) →
+    words_of layout ≤ length words → AreCounted layout all words →
     AreReady words (length layout.plans + length layout.leaves) (length layout.pollers) ready → IsReadyList layout all ready
 ends_ready layout all words ready wide counted are = record {
   all = are.all;
@@ -275,3 +283,8 @@ ends_ready layout all words ready wide counted are = record {
       let is : get_elem? words (ready_of layout task) ≡ slot.some word = there_or words (ready_of layout task) 0 (omega arith) in
       are.each task word within is ∙ told_once_more word _ _ (counted.each task word within is);
 }
+
+-- the ready words stand behind those of the sources and the leaves
+pub reads_ready : (layout : Layout) (words : List ℕ) (ready : List Bool) (sources leaves tasks : ℕ) → sources ≡ length layout.plans → leaves ≡ length layout.leaves → tasks ≡ length layout.pollers →
+    AreReady words (sources + leaves) tasks ready → AreReady words (length layout.plans + length layout.leaves) (length layout.pollers) ready
+reads_ready layout words ready sources leaves tasks plans_are leaves_are tasks_are are = rw (plans_are, leaves_are, tasks_are) at are

@@ -67,11 +67,14 @@ lies views id other both view all is = ⊎_elim
 
 at_back : {X : Type 0} (xs ys : List X) (at : ℕ) (x : X) → get_elem? ys at ≡ slot.some x → get_elem? (xs ++ ys) (length xs + at) ≡ slot.some x
 at_back [] ys at x is = subst (λ (k : ℕ). get_elem? ys k ≡ slot.some x) (let same : at ≡ 0 + at = omega arith in same) is
-at_back (first ∷ xs) ys at x is = subst (λ (k : ℕ). get_elem? (first ∷ xs ++ ys) k ≡ slot.some x) (let same : suc (length xs + at) ≡ suc (length xs) + at = omega arith in same) (at_back xs ys at x is)
+at_back (first ∷ xs) ys at x is = subst (λ (k : ℕ). get_elem? (first ∷ xs ++ ys) k ≡ slot.some x)
+    (let same : suc (length xs + at) ≡ suc (length xs) + at = omega arith in same) (at_back xs ys at x is)
 
 -- what somebody has to do somebody has to do after the join
-module _ (owed : Account → List ℕ) (views : List (List Account)) (id other : ℕ) (own others : List Account) (different : other ≢ id) (at_id : get_elem? views id ≡ slot.some own) (at_other : get_elem? views other ≡ slot.some others) where
-  owed_there : (index what : ℕ) (account : Account) → get_elem? (others ++ own) index ≡ slot.some account → is_among what (owed account) ≡ true → IsOwed owed (set (set views id (others ++ own)) other no_account) what
+module _ (owed : Account → List ℕ) (views : List (List Account)) (id other : ℕ) (own others : List Account) (different : other ≢ id)
+    (at_id : get_elem? views id ≡ slot.some own) (at_other : get_elem? views other ≡ slot.some others) where
+  owed_there : (index what : ℕ) (account : Account) → get_elem? (others ++ own) index ≡ slot.some account → is_among what (owed account) ≡ true →
+      IsOwed owed (set (set views id (others ++ own)) other no_account) what
   owed_there index what account is owes = record {
     view = id;
     at = index;

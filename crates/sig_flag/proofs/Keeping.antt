@@ -44,17 +44,20 @@ raised_of task account = (hold account task).raised
 
 module _ (layout : Layout) (words : List ℕ) (place value : ℕ) (old new : Account) where
   -- the ready word is another, and the counts stay
-  pub balances_apart : (task : ℕ) → ready_of layout task ≢ place → found_of task new ≡ found_of task old → raised_of task new ≡ raised_of task old → Balances layout words (set words place value) old new task
+  pub balances_apart : (task : ℕ) → ready_of layout task ≢ place → found_of task new ≡ found_of task old → raised_of task new ≡ raised_of task old →
+      Balances layout words (set words place value) old new task
   balances_apart task other found raised = let word = get_or-set_other words place (ready_of layout task) value 0 other in omega (arith, word, found, raised)
 
   -- the word is the ready word of a task, and of other tasks nothing changes
   pub balances_at : (task : ℕ) → place ≡ ready_of layout task → place < length words → ((other : ℕ) → other ≢ task → hold new other ≡ hold old other) →
-      value + found_of task new + raised_of task old ≡ slice_index words place + found_of task old + raised_of task new → (other : ℕ) → Balances layout words (set words place value) old new other
+      value + found_of task new + raised_of task old ≡ slice_index words place + found_of task old + raised_of task new → (other : ℕ) →
+      Balances layout words (set words place value) old new other
   balances_at task is within elsewhere here other = dite (ℕ_discrete other task)
       (λ same. subst (Balances layout words (set words place value) old new) (sym same)
       (subst (λ (k : ℕ). slice_index (set words place value) k + found_of task new + raised_of task old ≡ slice_index words k + found_of task old + raised_of task new) is
       (let word = get_or-set_same words place value 0 within in omega (arith, word, here))))
-      (λ different. balances_apart other (λ same. different (omega arith)) (ap (λ (h : Hold). h.found) (elsewhere other different)) (ap (λ (h : Hold). h.raised) (elsewhere other different)))
+      (λ different. balances_apart other (λ same. different (omega arith)) (ap (λ (h : Hold). h.found) (elsewhere other different))
+      (ap (λ (h : Hold). h.raised) (elsewhere other different)))
 
 -- from the words, views and histories before a step to those after it
 module _ (layout : Layout) (words after : List ℕ) (views seen : List (List Account)) (history later : ℕ → List Entry) where
@@ -166,7 +169,8 @@ module _ {V : Type 0} (plan_of : V → SourcePlan) (history_of : V → List Entr
 
   -- the accounts change their views, and nothing else happens
   pub moved : (s : State (Option V) (List Account)) (told : Whole s) (seen : List (List Account)) → Turned plan_of history_of layout.plans layout.seats (record { words = s.words; homes = s.homes; views = seen }) told.turns.history →
-      ((f : Account → ℕ) → total f seen ≡ total f s.views) → ((what : ℕ) → IsOwed rings_of s.views what → IsOwed rings_of seen what) → ((what : ℕ) → IsOwed tells_of s.views what → IsOwed tells_of seen what) →
+      ((f : Account → ℕ) → total f seen ≡ total f s.views) → ((what : ℕ) → IsOwed rings_of s.views what → IsOwed rings_of seen what) →
+      ((what : ℕ) → IsOwed tells_of s.views what → IsOwed tells_of seen what) →
       ((view at : ℕ) (all : List Account) (account : Account) → get_elem? seen view ≡ slot.some all → get_elem? all at ≡ slot.some account → IsWatching layout s.words s.views told.turns.history account) →
       Whole (record { words = s.words; homes = s.homes; views = seen })
   moved s told seen turned same_total rings tells was =
@@ -179,7 +183,8 @@ module _ {V : Type 0} (plan_of : V → SourcePlan) (history_of : V → List Entr
         turns = turned.0;
         wide = told.wide;
         bits = told.bits;
-        counts = λ task near. ap (λ (n : ℕ). slice_index s.words (ready_of layout task) + n) (same_total (found_of task)) ∙ told.counts task near ∙ ap (λ (n : ℕ). 1 + n) (sym (same_total (raised_of task)));
+        counts = λ task near. ap (λ (n : ℕ). slice_index s.words (ready_of layout task) + n) (same_total (found_of task)) ∙ told.counts task near
+            ∙ ap (λ (n : ℕ). 1 + n) (sym (same_total (raised_of task)));
         watching = λ view index all account is_view is_account.
             subst (λ (h : ℕ → List Entry). IsWatching layout s.words seen h account) (sym turned.1)
             (still_watching layout s.words s.words s.views seen history history account account refl refl refl keep (was view index all account is_view is_account));

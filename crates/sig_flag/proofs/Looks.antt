@@ -34,7 +34,9 @@ shown : (number : ℕ) (plan : SourcePlan) (history : List Entry) (knowledge : K
 shown number plan history knowledge word legal known shows = record {
   count = omega arith;
   room = rw (known.of_plan, shows.count) legal.of_source.room;
-  whole = λ closed. shows.count ∙ ap length (sym (closed_is_whole (record { plan = plan; history = history }) knowledge.seen legal.of_source known.front (rw known.of_plan at closed)));
+  whole = λ closed.
+      let all = closed_is_whole (record { plan = plan; history = history }) knowledge.seen legal.of_source known.front (rw known.of_plan at closed) in
+      shows.count ∙ ap length (sym all);
   closed = λ all. let same = whole_front knowledge.seen history known.front (sym shows.count ∙ all) in rw (known.of_plan, same) shows.closed;
 }
 
@@ -109,7 +111,8 @@ module _ {V : Type 0} (plan_of : V → SourcePlan) (history_of : V → List Entr
           after_look layout.leaves old source version ∷ [],
           keeps,
           tt,
-          look_whole s told id source version old (after_look layout.leaves old source version) within (at ∙ ap slot.some one) (λ i. record { count = shows.count i; closed = shows.closed i }) refl refl refl refl refl (λ task. (refl, refl))
+          look_whole s told id source version old (after_look layout.leaves old source version) within (at ∙ ap slot.some one)
+              (λ i. record { count = shows.count i; closed = shows.closed i }) refl refl refl refl refl (λ task. (refl, refl))
               (λ after seen later. look_watching layout after seen later old source version),
           record {
             short = omega (arith, shows.count, legal.of_source.room, legal.of_source.plan.room);

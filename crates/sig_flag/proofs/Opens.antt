@@ -85,10 +85,12 @@ bell_bit (suc leaves) tasks (suc at) = bell_bit leaves tasks at
 
 opening_bit : (sources : List ℕ) (leaves tasks place : ℕ) → length sources ≤ place → get_or (sources ++ (replicate leaves 0 ++ replicate tasks 1)) place 0 ≤ 1
 opening_bit sources leaves tasks place beyond =
-    subst (λ (n : ℕ). n ≤ 1) (sym (get_or-append_right sources (replicate leaves 0 ++ replicate tasks 1) (length sources) place 0 refl beyond)) (bell_bit leaves tasks (place - length sources))
+    subst (λ (n : ℕ). n ≤ 1) (sym (get_or-append_right sources (replicate leaves 0 ++ replicate tasks 1) (length sources) place 0 refl beyond))
+    (bell_bit leaves tasks (place - length sources))
 
 -- each task's word says that it is told
-opening_ready : (sources : List ℕ) (leaves tasks task : ℕ) → task < tasks → get_or (sources ++ (replicate leaves 0 ++ replicate tasks 1)) (length sources + leaves + task) 0 ≡ 1
+opening_ready : (sources : List ℕ) (leaves tasks task : ℕ) → task < tasks →
+    get_or (sources ++ (replicate leaves 0 ++ replicate tasks 1)) (length sources + leaves + task) 0 ≡ 1
 opening_ready sources leaves tasks task within =
     let there : length sources + leaves + task ≡ length sources + (leaves + task) = omega arith in
     let long : length (replicate {A = ℕ} leaves 0) ≡ leaves = length-replicate leaves 0 in
@@ -101,7 +103,8 @@ opening_ready sources leaves tasks task within =
 -- ---- totals
 
 -- what no account has at the start adds up to nothing
-opening_sum : (f : Account → ℕ) (layout : Layout) (first count : ℕ) → ((number : ℕ) → f (opening_account layout number) ≡ 0) → sum_by f (accounts_from layout first count) ≡ 0
+opening_sum : (f : Account → ℕ) (layout : Layout) (first count : ℕ) → ((number : ℕ) → f (opening_account layout number) ≡ 0) →
+    sum_by f (accounts_from layout first count) ≡ 0
 opening_sum f layout first zero none = refl
 opening_sum f layout first (suc others) none =
     let later = opening_sum f layout (suc first) others none in
@@ -176,7 +179,8 @@ module _ {V : Type 0} (plan_of : V → SourcePlan) (history_of : V → List Entr
         counts = λ task near.
             let holds = get_or-map (λ (poller : ℕ). no_hold) layout.pollers task 0 in
             let word : get_or (sources ++ more) (length layout.plans + length layout.leaves + task) 0 ≡ 1 =
-            ap (λ (k : ℕ). get_or (sources ++ more) (k + length layout.leaves + task) 0) (sym long) ∙ opening_ready sources (length shape.leaves) (length shape.tasks) task near in
+            ap (λ (k : ℕ). get_or (sources ++ more) (k + length layout.leaves + task) 0) (sym long) ∙ opening_ready sources (length shape.leaves)
+            (length shape.tasks) task near in
             let found = opening_total (found_of task) layout (λ number. ap (λ (h : Hold). h.found) holds) in
             let raised = opening_total (raised_of task) layout (λ number. ap (λ (h : Hold). h.raised) holds) in
             omega (arith, word, found, raised);

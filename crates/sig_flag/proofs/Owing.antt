@@ -112,6 +112,7 @@ is_there views number was = record {
   of_number = eqb-true was.account.number number (or_none (was.account.number == number) was.owes);
 }
 
-pub still_there : (views : List (List Account)) (id : ℕ) (old new : Account) (number : ℕ) → get_elem? views id ≡ slot.some (old ∷ []) → new.number ≡ old.number → IsThere views number → IsThere (set views id (new ∷ [])) number
+pub still_there : (views : List (List Account)) (id : ℕ) (old new : Account) (number : ℕ) → get_elem? views id ≡ slot.some (old ∷ []) →
+    new.number ≡ old.number → IsThere views number → IsThere (set views id (new ∷ [])) number
 still_there views id old new number at same was =
     is_there (set views id (new ∷ [])) number (still_owed numbers_of views id old new number at (λ among. subst (λ (n : ℕ). is_among number (n ∷ []) ≡ true) (sym same) among) (there_owed views number was))

@@ -53,8 +53,10 @@ lies views id first others view all is = ⊎_elim
     (at_end (set views id others) (first ∷ []) all view is)
 
 -- what somebody has to do somebody has to do after the split
-module _ (owed : Account → List ℕ) (views : List (List Account)) (id : ℕ) (first : Account) (others : List Account) (at : get_elem? views id ≡ slot.some (first ∷ others)) where
-  owed_here : (index what : ℕ) (account : Account) → get_elem? (first ∷ others) index ≡ slot.some account → is_among what (owed account) ≡ true → IsOwed owed (set views id others ++ (first ∷ []) ∷ []) what
+module _ (owed : Account → List ℕ) (views : List (List Account)) (id : ℕ) (first : Account) (others : List Account)
+    (at : get_elem? views id ≡ slot.some (first ∷ others)) where
+  owed_here : (index what : ℕ) (account : Account) → get_elem? (first ∷ others) index ≡ slot.some account → is_among what (owed account) ≡ true →
+      IsOwed owed (set views id others ++ (first ∷ []) ∷ []) what
   owed_here zero what account is owes = record {
     view = length views;
     at = 0;

@@ -50,7 +50,8 @@ module _ {V : Type 0} (plan_of : V → SourcePlan) (history_of : V → List Entr
         let after = set s.words (bell_of layout leaf) 1 in
         let seen = set s.views id (new ∷ []) in
         let keep = λ (other : ℕ) (near : other < length layout.leaves). armed_keeps leaf other polled.within near in
-        told_after plan_of history_of layout s told id old new at (bell_of layout leaf) 1 s.homes told.turns.history (λ _. omega arith) (λ task near. balances_apart layout s.words (bell_of layout leaf) 1 old new task (λ same. absurd (omega arith)) refl refl)
+        told_after plan_of history_of layout s told id old new at (bell_of layout leaf) 1 s.homes told.turns.history (λ _. omega arith)
+        (λ task near. balances_apart layout s.words (bell_of layout leaf) 1 old new task (λ same. absurd (omega arith)) refl refl)
         (aside_rule plan_of history_of layout.plans layout.seats s told.turns id (bell_of layout leaf) 1 old new (omega arith) at refl refl refl)
         (λ other near. inr (keep other near))
         (arm_watching layout after seen told.turns.history old leaf polled.within polled.poller (inl (get_or-set_same s.words (bell_of layout leaf) 1 0 (let within = polled.within in omega (arith, told.wide))))
@@ -90,7 +91,8 @@ module _ {V : Type 0} (plan_of : V → SourcePlan) (history_of : V → List Entr
     rung_whole leaf was_set is within =
         let new = after_ring layout.leaves old leaf was_set in
         let keep = λ (other : ℕ) (near : other < length layout.leaves). rung_keeps leaf other was_set is within near in
-        told_after plan_of history_of layout s told id old new at (bell_of layout leaf) 0 s.homes told.turns.history (λ _. omega arith) (λ task near. balances_apart layout s.words (bell_of layout leaf) 0 old new task (λ same. absurd (omega arith)) refl refl)
+        told_after plan_of history_of layout s told id old new at (bell_of layout leaf) 0 s.homes told.turns.history (λ _. omega arith)
+        (λ task near. balances_apart layout s.words (bell_of layout leaf) 0 old new task (λ same. absurd (omega arith)) refl refl)
         (aside_rule plan_of history_of layout.plans layout.seats s told.turns id (bell_of layout leaf) 0 old new (omega arith) at refl refl refl)
         (λ other near. inr (keep other near))
         (still_watching layout s.words (set s.words (bell_of layout leaf) 0) s.views (set s.views id (new ∷ [])) told.turns.history told.turns.history old new refl refl refl keep (told.watching id 0 (old ∷ []) old at refl))
@@ -114,10 +116,12 @@ module _ {V : Type 0} (plan_of : V → SourcePlan) (history_of : V → List Entr
         let next = get_or-set_same old.holds task (record (hold old task) { raised = (hold old task).raised + 1 }) no_hold (has_hold task within) in
         let found = ap (λ (h : Hold). h.found) next in
         let raised = ap (λ (h : Hold). h.raised) next in
-        balances_at layout s.words (ready_of layout task) 1 old (after_tell old task false) task refl (omega (arith, told.wide)) (λ k different. get_or-set_other old.holds task k _ no_hold different)
+        balances_at layout s.words (ready_of layout task) 1 old (after_tell old task false) task refl (omega (arith, told.wide))
+        (λ k different. get_or-set_other old.holds task k _ no_hold different)
         (omega (arith, not_one, bit, found, raised)) other
 
-    told_keeps : (task other : ℕ) (was_told : Bool) → task < length layout.pollers → other < length layout.leaves → Goes (ready_of layout task) 1 (after_tell old task was_told) other
+    told_keeps : (task other : ℕ) (was_told : Bool) → task < length layout.pollers → other < length layout.leaves →
+        Goes (ready_of layout task) 1 (after_tell old task was_told) other
     told_keeps task other was_told within near =
         let new = after_tell old task was_told in
         record {
@@ -129,13 +133,15 @@ module _ {V : Type 0} (plan_of : V → SourcePlan) (history_of : V → List Entr
           rings = λ _ owed. inl (still_owed rings_of s.views id old new other at (λ owes. owes) owed);
         }
 
-    told_whole : (task : ℕ) (was_told : Bool) → (get_or s.words (ready_of layout task) 0 == 1) ≡ was_told → task < length layout.pollers → Next (ready_of layout task) 1 (after_tell old task was_told)
+    told_whole : (task : ℕ) (was_told : Bool) → (get_or s.words (ready_of layout task) 0 == 1) ≡ was_told → task < length layout.pollers →
+        Next (ready_of layout task) 1 (after_tell old task was_told)
     told_whole task was_told is within =
         let new = after_tell old task was_told in
         let after = set s.words (ready_of layout task) 1 in
         let seen = set s.views id (new ∷ []) in
         let keep = λ (other : ℕ) (near : other < length layout.leaves). told_keeps task other was_told within near in
-        told_after plan_of history_of layout s told id old new at (ready_of layout task) 1 s.homes told.turns.history (λ _. omega arith) (λ other _. told_counts task was_told is within other)
+        told_after plan_of history_of layout s told id old new at (ready_of layout task) 1 s.homes told.turns.history (λ _. omega arith)
+        (λ other _. told_counts task was_told is within other)
         (aside_rule plan_of history_of layout.plans layout.seats s told.turns id (ready_of layout task) 1 old new (omega arith) at refl refl refl)
         (λ other near. inr (keep other near))
         (tell_watching layout after seen told.turns.history old task was_told (still_watching layout s.words after s.views seen told.turns.history told.turns.history old old refl refl refl keep (told.watching id 0 (old ∷ []) old at refl)))
@@ -171,10 +177,14 @@ module _ {V : Type 0} (plan_of : V → SourcePlan) (history_of : V → List Entr
         Balances layout s.words (set s.words (ready_of layout task) 0) old (after_collect layout.leaves old task was_told) other
     collected_counts task true is within other =
         let one = eqb-true (get_or s.words (ready_of layout task) 0) 1 is in
-        let next = get_or-set_same old.holds task (record (hold old task) { tokens = (hold old task).tokens + 1; found = (hold old task).found + 1 }) no_hold (has_hold task within) in
+        let next = get_or-set_same old.holds task (record (hold old task) {
+          tokens = (hold old task).tokens + 1;
+          found = (hold old task).found + 1;
+        }) no_hold (has_hold task within) in
         let found = ap (λ (h : Hold). h.found) next in
         let raised = ap (λ (h : Hold). h.raised) next in
-        balances_at layout s.words (ready_of layout task) 0 old (after_collect layout.leaves old task true) task refl (omega (arith, told.wide)) (λ k different. get_or-set_other old.holds task k _ no_hold different)
+        balances_at layout s.words (ready_of layout task) 0 old (after_collect layout.leaves old task true) task refl (omega (arith, told.wide))
+        (λ k different. get_or-set_other old.holds task k _ no_hold different)
         (omega (arith, one, found, raised)) other
     collected_counts task false is within other =
         let not_one = eqb-false (get_or s.words (ready_of layout task) 0) 1 is in
@@ -182,7 +192,8 @@ module _ {V : Type 0} (plan_of : V → SourcePlan) (history_of : V → List Entr
         let next = get_or-set_same old.holds task (record (hold old task) { missed = (hold old task).missed + 1 }) no_hold (has_hold task within) in
         let found = ap (λ (h : Hold). h.found) next in
         let raised = ap (λ (h : Hold). h.raised) next in
-        balances_at layout s.words (ready_of layout task) 0 old (after_collect layout.leaves old task false) task refl (omega (arith, told.wide)) (λ k different. get_or-set_other old.holds task k _ no_hold different)
+        balances_at layout s.words (ready_of layout task) 0 old (after_collect layout.leaves old task false) task refl (omega (arith, told.wide))
+        (λ k different. get_or-set_other old.holds task k _ no_hold different)
         (omega (arith, not_one, bit, found, raised)) other
 
     collected_whole : (task : ℕ) (was_told : Bool) → (get_or s.words (ready_of layout task) 0 == 1) ≡ was_told → IsTaskOf layout task old.number → Next (ready_of layout task) 0 (after_collect layout.leaves old task was_told)
@@ -190,7 +201,8 @@ module _ {V : Type 0} (plan_of : V → SourcePlan) (history_of : V → List Entr
         let new = after_collect layout.leaves old task true in
         let mine = told.watching id 0 (old ∷ []) old at refl in
         let apart = λ (leaf : ℕ) (near : leaf < length layout.leaves) (different : task_of layout leaf ≢ task). collected_keeps task leaf true polled.within near (inl different) in
-        told_after plan_of history_of layout s told id old new at (ready_of layout task) 0 s.homes told.turns.history (λ _. omega arith) (λ other _. collected_counts task true is polled.within other)
+        told_after plan_of history_of layout s told id old new at (ready_of layout task) 0 s.homes told.turns.history (λ _. omega arith)
+        (λ other _. collected_counts task true is polled.within other)
         (aside_rule plan_of history_of layout.plans layout.seats s told.turns id (ready_of layout task) 0 old new (omega arith) at refl refl refl)
         (λ leaf near. dite (ℕ_discrete (task_of layout leaf) task) (λ same. inl (polled.poller ∙ ap (λ (k : ℕ). get_or layout.pollers k 0) (sym same))) (λ different. inr (apart leaf near different)))
         (told_watching layout (set s.words (ready_of layout task) 0) (set s.views id (new ∷ [])) told.turns.history s.words s.views told.turns.history old task (let within = polled.within in omega (arith, mine.holds)) mine
@@ -202,7 +214,8 @@ module _ {V : Type 0} (plan_of : V → SourcePlan) (history_of : V → List Entr
         let seen = set s.views id (new ∷ []) in
         let not_one : get_or s.words (ready_of layout task) 0 ≢ 1 = λ one. absurd (let same = eq-eqb (get_or s.words (ready_of layout task) 0) 1 one in cc) in
         let keep = λ (leaf : ℕ) (near : leaf < length layout.leaves). collected_keeps task leaf false polled.within near (inr not_one) in
-        told_after plan_of history_of layout s told id old new at (ready_of layout task) 0 s.homes told.turns.history (λ _. omega arith) (λ other _. collected_counts task false is polled.within other)
+        told_after plan_of history_of layout s told id old new at (ready_of layout task) 0 s.homes told.turns.history (λ _. omega arith)
+        (λ other _. collected_counts task false is polled.within other)
         (aside_rule plan_of history_of layout.plans layout.seats s told.turns id (ready_of layout task) 0 old new (omega arith) at refl refl refl)
         (λ leaf near. inr (keep leaf near))
         (missed_watching layout after seen told.turns.history old task (still_watching layout s.words after s.views seen told.turns.history told.turns.history old old refl refl refl keep (told.watching id 0 (old ∷ []) old at refl)))
@@ -217,9 +230,16 @@ module _ {V : Type 0} (plan_of : V → SourcePlan) (history_of : V → List Entr
     rings leaf same numbered at_bell within = rw (sym same, sym numbered, at_bell) (λ s told long at short.
         (after_ring layout.leaves (account_of me.0) leaf (get_or s.words (bell_of layout leaf) 0 == 1) ∷ [], keeps, tt, rung_whole s told id (account_of me.0) (at ∙ ap slot.some one) leaf (get_or s.words (bell_of layout leaf) 0 == 1) refl within, refl))
 
-    pub tells : (task : ℕ) → task ≡ number → word ≡ ready_of layout task → task < length layout.pollers → Allows (Whole plan_of history_of layout) slots id me word (λ _. 1) (IsTelling number (step slots word 1 0 slot.none) me)
-    tells task numbered at_ready within = rw (sym numbered, at_ready) (λ s told long at short.
-        (after_tell (account_of me.0) task (get_or s.words (ready_of layout task) 0 == 1) ∷ [], keeps, tt, told_whole s told id (account_of me.0) (at ∙ ap slot.some one) task (get_or s.words (ready_of layout task) 0 == 1) refl within, refl))
+    pub tells : (task : ℕ) → task ≡ number → word ≡ ready_of layout task → task < length layout.pollers →
+        Allows (Whole plan_of history_of layout) slots id me word (λ _. 1) (IsTelling number (step slots word 1 0 slot.none) me)
+    tells task numbered at_ready within = rw (sym numbered, at_ready) (λ s told long at short. (
+      after_tell (account_of me.0) task (get_or s.words (ready_of layout task) 0 == 1) ∷ [],
+      keeps,
+      tt,
+      told_whole s told id (account_of me.0)
+          (at ∙ ap slot.some one) task (get_or s.words (ready_of layout task) 0 == 1) refl within,
+      refl,
+    ))
 
     pub collects : (task : ℕ) → layout.leaves ≡ leaves → task ≡ number → word ≡ ready_of layout task → IsTaskOf layout task (account_of me.0).number → Allows (Whole plan_of history_of layout) slots id me word (λ _. 0) (IsCollecting leaves number (step slots word 0 0 slot.none) me)
     collects task same numbered at_ready polled = rw (sym same, sym numbered, at_ready) (λ s told long at short.

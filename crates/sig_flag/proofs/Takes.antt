@@ -84,7 +84,15 @@ module _ {V : Type 0} (plan_of : V → SourcePlan) (history_of : V → List Entr
       (rw is (told.sources source within))
       (word_is, taken_out s.homes source)
       (λ k other. get_or-set_other s.homes source k slot.none slot.none other)
-      (λ number holds. record { view = id; at = 0; all = old ∷ []; account = old; is_view = at; is_account = refl; of_number = (let same : old.number ≡ number = cc in same) })
+      (λ number holds. record {
+        view = id;
+        at = 0;
+        all = old ∷ [];
+        account = old;
+        is_view = at;
+        is_account = refl;
+        of_number = (let same : old.number ≡ number = cc in same);
+      })
 
   held_rule : (s : State (Option V) (List Account)) (told : Rule plan_of history_of plans seats s) (id source word found : ℕ) (old : Account) → source < length plans → get_elem? s.views id ≡ slot.some (old ∷ []) →
       word ≡ get_or s.words source 0 →
@@ -120,7 +128,9 @@ module _ {V : Type 0} (plan_of : V → SourcePlan) (history_of : V → List Entr
       λ leaf here. keeps_apart plan_of history_of layout s told id old new at source word later leaf (λ same. absurd (omega arith)) (λ same. absurd (omega arith)) (λ owes. rw tells owes) (λ owes. rw rings owes)
       (inl (ap (λ (h : List Entry). version_of (record { plan = plan_at layout.plans (leaf_at layout.leaves leaf).source; history = h })) (same (leaf_at layout.leaves leaf).source))) in
       told_after plan_of history_of layout s told id old new at source word homes later (λ beyond. absurd (omega arith))
-      (λ task near. balances_apart layout s.words source word old new task (λ same. absurd (omega arith)) (ap (λ (all : List Hold). (slice_index_or all task no_hold).found) holds) (ap (λ (all : List Hold). (slice_index_or all task no_hold).raised) holds)) turned (λ leaf here. inr (keep leaf here))
+      (λ task near. balances_apart layout s.words source word old new task (λ same. absurd (omega arith))
+      (ap (λ (all : List Hold). (slice_index_or all task no_hold).found) holds)
+      (ap (λ (all : List Hold). (slice_index_or all task no_hold).raised) holds)) turned (λ leaf here. inr (keep leaf here))
       (still_watching layout s.words (set s.words source word) s.views (set s.views id (new ∷ [])) told.turns.history later old new number watches holds keep mine)
 
   module _ (slots id : ℕ) (me : Seated V) (source : ℕ) where

@@ -37,7 +37,8 @@ module _ (f : Account → ℕ) where
       let is = sum_by-cons sum_of first views in
       omega (arith, none, here, is)
 
-  pub total_alone : (views : List (List Account)) (id : ℕ) (own : List Account) → get_elem? views id ≡ slot.some own → ((view : ℕ) (all : List Account) → view ≢ id → get_elem? views view ≡ slot.some all → all ≡ []) → total f views ≡ sum_by f own
+  pub total_alone : (views : List (List Account)) (id : ℕ) (own : List Account) → get_elem? views id ≡ slot.some own →
+      ((view : ℕ) (all : List Account) → view ≢ id → get_elem? views view ≡ slot.some all → all ≡ []) → total f views ≡ sum_by f own
   total_alone [] id own at empty = absurd (some-ne-none own (sym at))
   total_alone (first ∷ views) zero own at empty =
       let none = total_none views (λ view all is. empty (suc view) all (λ same. absurd (omega arith)) is) in
@@ -52,19 +53,24 @@ module _ (f : Account → ℕ) where
 
   -- ---- a step, a split and a join
 
-  total_set : (views : List (List Account)) (id : ℕ) (own after : List Account) → get_elem? views id ≡ slot.some own → total f (set views id after) + sum_of own ≡ total f views + sum_of after
+  total_set : (views : List (List Account)) (id : ℕ) (own after : List Account) → get_elem? views id ≡ slot.some own →
+      total f (set views id after) + sum_of own ≡ total f views + sum_of after
   total_set views id own after at =
-      subst (λ (all : List Account). total f (set views id after) + sum_of all ≡ total f views + sum_of after) (read_there views id [] own at) (sum_by-set sum_of views id after [] (within views id own at))
+      subst (λ (all : List Account). total f (set views id after) + sum_of all ≡ total f views + sum_of after) (read_there views id [] own at)
+      (sum_by-set sum_of views id after [] (within views id own at))
 
-  pub total_step : (views : List (List Account)) (id : ℕ) (old new : Account) → get_elem? views id ≡ slot.some (old ∷ []) → total f (set views id (new ∷ [])) + f old ≡ total f views + f new
+  pub total_step : (views : List (List Account)) (id : ℕ) (old new : Account) → get_elem? views id ≡ slot.some (old ∷ []) →
+      total f (set views id (new ∷ [])) + f old ≡ total f views + f new
   total_step views id old new at = let is = total_set views id (old ∷ []) (new ∷ []) at in omega (arith, is, sum_one old, sum_one new)
 
-  pub total_split : (views : List (List Account)) (id : ℕ) (first : Account) (others : List Account) → get_elem? views id ≡ slot.some (first ∷ others) → total f (set views id others ++ (first ∷ []) ∷ []) ≡ total f views
+  pub total_split : (views : List (List Account)) (id : ℕ) (first : Account) (others : List Account) →
+      get_elem? views id ≡ slot.some (first ∷ others) → total f (set views id others ++ (first ∷ []) ∷ []) ≡ total f views
   total_split views id first others at =
       let is = total_set views id (first ∷ others) others at in
       omega (arith, is, sum_by-cons f first others, sum_one first, sum_by_push sum_of (set views id others) (first ∷ []))
 
-  pub total_join : (views : List (List Account)) (id other : ℕ) (own others : List Account) → other ≢ id → get_elem? views id ≡ slot.some own → get_elem? views other ≡ slot.some others →
+  pub total_join : (views : List (List Account)) (id other : ℕ) (own others : List Account) → other ≢ id → get_elem? views id ≡ slot.some own →
+      get_elem? views other ≡ slot.some others →
       total f (set (set views id (others ++ own)) other []) ≡ total f views
   total_join views id other own others different at_id at_other =
       let first = total_set views id own (others ++ own) at_id in

@@ -16,7 +16,8 @@ alone account found zero is = (refl, some-injective account found is)
 alone account found (suc at) is = absurd (some-ne-none found (sym is))
 
 -- an account of the views after a step is the seat's own, or lies where it lay
-pub found : (views : List (List Account)) (id : ℕ) (new : Account) (view at : ℕ) (all : List Account) (account : Account) → get_elem? (set views id (new ∷ [])) view ≡ slot.some all → get_elem? all at ≡ slot.some account →
+pub found : (views : List (List Account)) (id : ℕ) (new : Account) (view at : ℕ) (all : List Account) (account : Account) →
+    get_elem? (set views id (new ∷ [])) view ≡ slot.some all → get_elem? all at ≡ slot.some account →
     ((view ≡ id) × (at ≡ 0) × (new ≡ account)) ⊎ ((view ≢ id) × (get_elem? views view ≡ slot.some all))
 found views id new view at all account is_view is_account =
     ⊎_elim

@@ -85,13 +85,16 @@ module _ (layout : Layout) (words : List ℕ) (views : List (List Account)) (his
   rested_watched leaf before after condition false same was = subst (λ (n : ℕ). IsWatched layout words views history leaf n condition) (sym (same refl)) was
 
   -- a leaf of another task has the tokens that it had
-  other_tokens : (account : Account) (task of_leaf : ℕ) (next : Hold) → (of_leaf == task) ≡ false → (slice_index_or (set account.holds task next) of_leaf no_hold).tokens ≡ (hold account of_leaf).tokens
-  other_tokens account task of_leaf next other = ap (λ (h : Hold). h.tokens) (get_or-set_other account.holds task of_leaf next no_hold (λ same. absurd (let is = eq-eqb of_leaf task same in cc)))
+  other_tokens : (account : Account) (task of_leaf : ℕ) (next : Hold) → (of_leaf == task) ≡ false →
+      (slice_index_or (set account.holds task next) of_leaf no_hold).tokens ≡ (hold account of_leaf).tokens
+  other_tokens account task of_leaf next other = ap (λ (h : Hold). h.tokens)
+      (get_or-set_other account.holds task of_leaf next no_hold (λ same. absurd (let is = eq-eqb of_leaf task same in cc)))
 
   pub rest_watching : (account : Account) (task : ℕ) → IsWatching layout words views history account → IsWatching layout words views history (at_rest layout.leaves account task)
   rest_watching account task was =
       changed_watching words views history (λ leaf condition. cond (leaf.task == task) (settled condition) condition) account (at_rest layout.leaves account task) refl refl (length-set account.holds task _) (λ leaf. same_idle (leaf.task == task) Idle refl) was
-      (λ leaf within. rested_watched leaf (hold account (task_of layout leaf)).tokens _ (watch account leaf).condition (task_of layout leaf == task) (other_tokens account task (task_of layout leaf) _) (was.each leaf within))
+      (λ leaf within. rested_watched leaf (hold account (task_of layout leaf)).tokens _ (watch account leaf).condition (task_of layout leaf == task)
+      (other_tokens account task (task_of layout leaf) _) (was.each leaf within))
 
   pub last_look_watching : (account : Account) (leaf : ℕ) (version : Version) (news : Bool) → ((other : ℕ) → (leaf_at layout.leaves other).source ≡ (leaf_at layout.leaves leaf).source → version_at layout words views history other ≡ version) →
       IsWatching layout words views history account →
@@ -113,7 +116,8 @@ module _ (layout : Layout) (words : List ℕ) (views : List (List Account)) (his
   told_watched leaf before after condition true some same was = woken_watched leaf after condition (some refl)
   told_watched leaf before after condition false some same was = subst (λ (n : ℕ). IsWatched layout words views history leaf n condition) (sym (same refl)) (was refl)
 
-  one_token_more : (account : Account) (task of_leaf : ℕ) (next : Hold) → task < length account.holds → 0 < next.tokens → (of_leaf == task) ≡ true → 0 < (slice_index_or (set account.holds task next) of_leaf no_hold).tokens
+  one_token_more : (account : Account) (task of_leaf : ℕ) (next : Hold) → task < length account.holds → 0 < next.tokens → (of_leaf == task) ≡ true →
+      0 < (slice_index_or (set account.holds task next) of_leaf no_hold).tokens
   one_token_more account task of_leaf next within some same =
       let is = eqb-true of_leaf task same in
       let more = ap (λ (h : Hold). h.tokens) (get_or-set_same account.holds task next no_hold within) in
@@ -129,20 +133,23 @@ module _ (layout : Layout) (words : List ℕ) (views : List (List Account)) (his
       (one_token_more account task (task_of layout leaf) _ within (omega arith)) (other_tokens account task (task_of layout leaf) _) (kept leaf here))
 
   -- of a task all but the tokens may change
-  same_tokens : (account new : Account) (task : ℕ) (next : Hold) → new.number ≡ account.number → new.watches ≡ account.watches → new.holds ≡ set account.holds task next → next.tokens ≡ (hold account task).tokens →
+  same_tokens : (account new : Account) (task : ℕ) (next : Hold) → new.number ≡ account.number → new.watches ≡ account.watches →
+      new.holds ≡ set account.holds task next → next.tokens ≡ (hold account task).tokens →
       IsWatching layout words views history account → IsWatching layout words views history new
   same_tokens account new task next number watches holds tokens was = record {
     watches = ap length watches ∙ was.watches;
     holds = ap length holds ∙ length-set account.holds task next ∙ was.holds;
     each = λ leaf within. rw (watches, holds)
-        (subst (λ (n : ℕ). IsWatched layout words views history leaf n (watch account leaf).condition) (sym (set_same (λ (h : Hold). h.tokens) account.holds task (task_of layout leaf) next no_hold tokens)) (was.each leaf within));
+        (subst (λ (n : ℕ). IsWatched layout words views history leaf n (watch account leaf).condition)
+        (sym (set_same (λ (h : Hold). h.tokens) account.holds task (task_of layout leaf) next no_hold tokens)) (was.each leaf within));
     others = λ leaf within other. rw watches (was.others leaf within (λ polls. other (number ∙ polls)));
   }
 
   pub missed_watching : (account : Account) (task : ℕ) → IsWatching layout words views history account → IsWatching layout words views history (after_collect layout.leaves account task false)
   missed_watching account task was = same_tokens account (after_collect layout.leaves account task false) task _ refl refl refl refl was
 
-  pub tell_watching : (account : Account) (task : ℕ) (was_told : Bool) → IsWatching layout words views history account → IsWatching layout words views history (after_tell account task was_told)
+  pub tell_watching : (account : Account) (task : ℕ) (was_told : Bool) → IsWatching layout words views history account →
+      IsWatching layout words views history (after_tell account task was_told)
   tell_watching account task true was = record { watches = was.watches; holds = was.holds; each = was.each; others = was.others }
   tell_watching account task false was = same_tokens account (after_tell account task false) task _ refl refl refl refl was
 

@@ -164,5 +164,11 @@ woken _ = Idle
 abbrev pub after_collect : List LeafPlan → Account → ℕ → Bool → Account
 after_collect leaves account task was_told =
     if was_told then
-    record account { watches = changed (λ leaf condition. if leaf.task == task then woken condition else condition) leaves account; holds = slice_set account.holds task (record (hold account task) { tokens = (hold account task).tokens + 1; found = (hold account task).found + 1 }) }
+    record account {
+      watches = changed (λ leaf condition. if leaf.task == task then woken condition else condition) leaves account;
+      holds = slice_set account.holds task (record (hold account task) {
+        tokens = (hold account task).tokens + 1;
+        found = (hold account task).found + 1;
+      });
+    }
     else record account { holds = slice_set account.holds task (record (hold account task) { missed = (hold account task).missed + 1 }) }

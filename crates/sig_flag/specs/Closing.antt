@@ -39,7 +39,8 @@ module _ {V : Type 0} where
 module _ {V : Type 0} (plan_of : V → SourcePlan) (history_of : V → List Entry) where
   -- by the slots and the words
   abbrev pub AreHeard : Layout → List (Seat (Option V) (List Account)) → List ℕ → List (Option V) → Type 0
-  AreHeard layout seats words slots = NoneWaits plan_of history_of layout seats (λ source state. get_elem? slots source ≡ some (Some state)) (λ task. get_elem? words (ready_of layout task) ≡ some 1)
+  AreHeard layout seats words slots = NoneWaits plan_of history_of layout seats (λ source state. get_elem? slots source ≡ some (Some state))
+      (λ task. get_elem? words (ready_of layout task) ≡ some 1)
 
   -- each source's state is in its slot
   pub record IsShut (plans : List SourcePlan) (seats : List (Seat (Option V) (List Account))) (slots : List (Option V)) : Type 0 where

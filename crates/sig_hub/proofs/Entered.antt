@@ -123,7 +123,11 @@ module _ (number : ℕ) (old mid : PassSeat) (source : ℕ) (state : Source) (is
 
     is_last : account new ≡ last_account
     unfolding last_account
-    is_last = (reads new _ _ given.has.has).is ∙ ap (λ (a : Account). record (after_give [] a source after.history) { holds = given.has.holds; rings = []; tells = [] }) (reads mid _ _ taken.has).is
+    is_last = (reads new _ _ given.has.has).is ∙ ap (λ (a : Account). record (after_give [] a source after.history) {
+      holds = given.has.holds;
+      rings = [];
+      tells = [];
+    }) (reads mid _ _ taken.has).is
 
     pub is_after : IsAfter number old new source after.history
     unfolding last_account

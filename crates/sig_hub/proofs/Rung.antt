@@ -39,10 +39,16 @@ told_twice old mid new first second = record {
   each = λ task.
       let before = first.each task in
       let after = second.each task in
-      record { tokens = after.tokens ∙ before.tokens; missed = after.missed ∙ before.missed; found = after.found ∙ before.found; raised = omega (arith, before.raised, after.raised) };
+      record {
+        tokens = after.tokens ∙ before.tokens;
+        missed = after.missed ∙ before.missed;
+        found = after.found ∙ before.found;
+        raised = omega (arith, before.raised, after.raised);
+      };
 }
 
-one_at : (holds : List Hold) (at task : ℕ) → IsToldMore (get_or holds task no_hold) (get_or (set holds at (record (get_or holds at no_hold) { raised = (get_or holds at no_hold).raised + 1 })) task no_hold)
+one_at : (holds : List Hold) (at task : ℕ) → IsToldMore (get_or holds task no_hold)
+    (get_or (set holds at (record (get_or holds at no_hold) { raised = (get_or holds at no_hold).raised + 1 })) task no_hold)
 one_at [] at task = told_no_more no_hold
 one_at (first ∷ holds) zero zero = record { tokens = refl; missed = refl; found = refl; raised = omega arith }
 one_at (first ∷ holds) zero (suc task) = told_no_more (get_or holds task no_hold)
@@ -60,8 +66,15 @@ has_told_none seat a slots has = record { holds = a.holds; told = none_told a.ho
 
 module _ (leaves : List LeafPlan) (leaf : ℕ) (old mid : PassSeat) (no_tell : (account old).tells ≡ []) where
   -- its bell wasn't set
-  pub rung_silent : Has mid (after_ring leaves (account old) leaf false) old.me.1 → HasTelling mid (record (account old) { rings = struck leaf (account old).rings; tells = [] }) old.me.1
-  rung_silent has = has_told_none mid _ old.me.1 (has ∙ ap (λ (tells : List ℕ). (record (account old) { rings = struck leaf (account old).rings; tells = tells } ∷ [], old.me.1)) no_tell)
+  pub rung_silent : Has mid (after_ring leaves (account old) leaf false) old.me.1 →
+      HasTelling mid (record (account old) { rings = struck leaf (account old).rings; tells = [] }) old.me.1
+  rung_silent has = has_told_none mid _ old.me.1 (has ∙ ap (λ (tells : List ℕ). (
+    record (account old) {
+      rings = struck leaf (account old).rings;
+      tells = tells;
+    } ∷ [],
+    old.me.1,
+  )) no_tell)
 
   -- its bell was set, and its task is to be told
   module _ (task : ℕ) (its : (leaf_at leaves leaf).task ≡ task) (has : Has mid (after_ring leaves (account old) leaf true) old.me.1) where
@@ -71,12 +84,26 @@ module _ (leaves : List LeafPlan) (leaf : ℕ) (old mid : PassSeat) (no_tell : (
     pub owes_tell : is_among task (account mid).tells ≡ true
     owes_tell = subst (λ (a : Account). is_among task a.tells ≡ true) (sym mid_is.is) (or_left (task == task) false (eq-eqb task task refl))
 
-    pub rung_told : (new : PassSeat) (was_told : Bool) → Has new (after_tell (account mid) task was_told) mid.me.1 → HasTelling new (record (account old) { rings = struck leaf (account old).rings; tells = [] }) old.me.1
+    pub rung_told : (new : PassSeat) (was_told : Bool) → Has new (after_tell (account mid) task was_told) mid.me.1 →
+        HasTelling new (record (account old) { rings = struck leaf (account old).rings; tells = [] }) old.me.1
     rung_told new was_told told = record {
       holds = (after_tell (account mid) task was_told).holds;
       told = subst (λ (a : Account). AreToldMore a.holds (after_tell (account mid) task was_told).holds) mid_is.is (one_told (account mid) task was_told);
-      has = told ∙ (λ i. (record (mid_is.is i) { holds = (after_tell (account mid) task was_told).holds; tells = struck task (mid_is.is i).tells } ∷ [], mid_is.slots_are i))
-          ∙ ap (λ (tells : List ℕ). (record (account old) { holds = (after_tell (account mid) task was_told).holds; rings = struck leaf (account old).rings; tells = tells } ∷ [], old.me.1)) (struck_first task []);
+      has = told ∙ (λ i. (
+        record (mid_is.is i) {
+          holds = (after_tell (account mid) task was_told).holds;
+          tells = struck task (mid_is.is i).tells;
+        } ∷ [],
+        mid_is.slots_are i,
+      ))
+          ∙ ap (λ (tells : List ℕ). (
+            record (account old) {
+              holds = (after_tell (account mid) task was_told).holds;
+              rings = struck leaf (account old).rings;
+              tells = tells;
+            } ∷ [],
+            old.me.1,
+          )) (struck_first task []);
     }
 
 -- ---- all leaves
@@ -106,11 +133,14 @@ module _ (machine : Machine) (source : ℕ) (old : PassSeat) (sits : Sits machin
         holds = ringing.has.holds;
         told = ringing.has.told;
         has = ringing.has.has ∙ ap (λ (all : List ℕ). (record (account old) { holds = ringing.has.holds; rings = all; tells = [] } ∷ [], old.me.1))
-            (on_more source from machine.layout.leaves more ∙ ap (λ (on : Bool). cond on (from ∷ leaves_on source (drop (from + 1) machine.layout.leaves) (from + 1)) (leaves_on source (drop (from + 1) machine.layout.leaves) (from + 1))) other);
+            (on_more source from machine.layout.leaves more
+            ∙ ap (λ (on : Bool). cond on (from ∷ leaves_on source (drop (from + 1) machine.layout.leaves) (from + 1))
+            (leaves_on source (drop (from + 1) machine.layout.leaves) (from + 1))) other);
       };
     }
 
-    rings_here : from < length machine.layout.leaves → ((leaf_at machine.layout.leaves from).source == source) ≡ true → (account now).rings ≡ from ∷ leaves_on source (drop (from + 1) machine.layout.leaves) (from + 1)
+    rings_here : from < length machine.layout.leaves → ((leaf_at machine.layout.leaves from).source == source) ≡ true →
+        (account now).rings ≡ from ∷ leaves_on source (drop (from + 1) machine.layout.leaves) (from + 1)
     rings_here more on =
         let rest = leaves_on source (drop (from + 1) machine.layout.leaves) (from + 1) in
         ap (λ (a : Account). a.rings) reading.is ∙ on_more source from machine.layout.leaves more ∙ ap (λ (on : Bool). cond on (from ∷ rest) rest) on
@@ -142,7 +172,8 @@ module _ (machine : Machine) (source : ℕ) (old : PassSeat) (sits : Sits machin
       has = record {
         holds = ringing.has.holds;
         told = ringing.has.told;
-        has = ringing.has.has ∙ ap (λ (all : List ℕ). (record (account old) { holds = ringing.has.holds; rings = all; tells = [] } ∷ [], old.me.1)) (on_none source from machine.layout.leaves past);
+        has = ringing.has.has ∙ ap (λ (all : List ℕ). (record (account old) { holds = ringing.has.holds; rings = all; tells = [] } ∷ [], old.me.1))
+            (on_none source from machine.layout.leaves past);
       };
     }
 
@@ -174,5 +205,7 @@ module _ (leaves : List LeafPlan) (source : ℕ) (state : Source) (old mid : Pas
   pub given_unchanged : (length state.history == length (known (account old) source).seen) ≡ true → HasGiven old mid source state
   given_unchanged is = record {
     same = same;
-    has = has_told_none mid _ [] (has_both mid _ [] (given_account.one ∙ (λ i. record (account mid) { rings = rings_given true is i; tells = tells_given i } ∷ []) ∙ (λ i. record (given_account.is i) { rings = []; tells = [] } ∷ [])) given_account.slots_are);
+    has = has_told_none mid _ [] (has_both mid _ [] (given_account.one
+        ∙ (λ i. record (account mid) { rings = rings_given true is i; tells = tells_given i } ∷ [])
+        ∙ (λ i. record (given_account.is i) { rings = []; tells = [] } ∷ [])) given_account.slots_are);
   }

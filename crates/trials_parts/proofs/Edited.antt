@@ -31,15 +31,19 @@ pub same_state : (seat : Sitting) (state other : Source) → HasTurn seat 0 (Som
 unfolding held
 same_state seat state other is is' = let same : Some state ≡ Some other = ap held (sym is.slot ∙ is'.slot) in cc
 
-pub turn_back : (old mid back : Sitting) (before after : Option Source) (slots : List (ℕ × Option Source)) → HasTurn old 0 before → Has mid (account old) slots → Has back (account mid) ((0, after) ∷ []) → HasTurn back 0 after
+pub turn_back : (old mid back : Sitting) (before after : Option Source) (slots : List (ℕ × Option Source)) → HasTurn old 0 before →
+    Has mid (account old) slots → Has back (account mid) ((0, after) ∷ []) → HasTurn back 0 after
 turn_back old mid back before after slots turn out put = record {
   turn = ap (λ (m : Holding). (account_of m.0).turn) put ∙ ap (λ (m : Holding). (account_of m.0).turn) out ∙ turn.turn;
   slot = ap (λ (m : Holding). m.1) put;
 }
 
-module _ (machine : Machine) (old mid back new : Sitting) (leaves : List LeafPlan) (at_work : IsAtWork machine 0 old) (is_trial : leaves ≡ trial_shape.leaves) (state : Source) (slots : List (ℕ × Option Source))
-    (out : Has mid (account old) slots) (put : Has back (account mid) ((0, Some state) ∷ [])) (gave : Has new (after_give leaves (account back) 0 state.history) []) (entry : Entry)
-    (before : Source) (is_state : before ≡ at_work.state) (is_entered : state ≡ entered before entry) (caller : entry.caller ≡ 0) (no_leave : is_leave entry.edit ≡ false) where
+module _ (machine : Machine) (old mid back new : Sitting) (leaves : List LeafPlan) (at_work : IsAtWork machine 0 old)
+    (is_trial : leaves ≡ trial_shape.leaves) (state : Source) (slots : List (ℕ × Option Source))
+    (out : Has mid (account old) slots) (put : Has back (account mid) ((0, Some state) ∷ []))
+    (gave : Has new (after_give leaves (account back) 0 state.history) []) (entry : Entry)
+    (before : Source) (is_state : before ≡ at_work.state) (is_entered : state ≡ entered before entry) (caller : entry.caller ≡ 0)
+    (no_leave : is_leave entry.edit ≡ false) where
   own : Account
   own = account old
 
@@ -57,7 +61,11 @@ module _ (machine : Machine) (old mid back new : Sitting) (leaves : List LeafPla
   unfolding own
   among = rw at_work.plan at at_work.is_in.is_writer
 
-  here : known (after_give leaves own 0 state.history) 0 ≡ record (known own 0) { seen = state.history; count = length state.history; own = own_entries own.number state.history }
+  here : known (after_give leaves own 0 state.history) 0 ≡ record (known own 0) {
+    seen = state.history;
+    count = length state.history;
+    own = own_entries own.number state.history;
+  }
   here = get_or-set_same own.knows 0 _ _ (knows_some own.knows among)
 
   more : length state.history ≡ length (known own 0).seen + 1
@@ -74,7 +82,8 @@ module _ (machine : Machine) (old mid back new : Sitting) (leaves : List LeafPla
     stays = rw (account_is, here, at_work.number) still_in.stays;
   }
 
-  rings_when : (came : Bool) → (length state.history == length (known own 0).seen) ≡ came → own.rings ++ cond (length state.history == length (known own 0).seen) [] (leaves_on 0 leaves 0) ≡ cond came [] (0 ∷ [])
+  rings_when : (came : Bool) → (length state.history == length (known own 0).seen) ≡ came →
+      own.rings ++ cond (length state.history == length (known own 0).seen) [] (leaves_on 0 leaves 0) ≡ cond came [] (0 ∷ [])
   unfolding own
   rings_when came same = λ i. at_work.nothing.no_ring i ++ cond (same i) [] (leaves_on 0 (is_trial i) 0)
 
@@ -84,6 +93,7 @@ module _ (machine : Machine) (old mid back new : Sitting) (leaves : List LeafPla
       let account_is : account new ≡ after_give leaves own 0 state.history = ap (λ (m : Holding). account_of m.0) has in
       record {
         idle = idle account_is same;
-        ring = ap (λ (a : Account). a.rings) account_is ∙ rings_when false (ne_eqb (length state.history) (length (known own 0).seen) (λ equal. absurd (omega (arith, more))));
+        ring = ap (λ (a : Account). a.rings) account_is ∙ rings_when false (ne_eqb (length state.history) (length (known own 0).seen)
+            (λ equal. absurd (omega (arith, more))));
         no_tell = ap (λ (a : Account). a.tells) account_is ∙ at_work.nothing.no_tell;
       }

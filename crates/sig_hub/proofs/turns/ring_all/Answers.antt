@@ -18,6 +18,8 @@ leaves-preserved c =
     let goes : PassSeat → Type 0 = IsRinging all c.args.source (c.leaves.leaf + 1) c.args.seat.now in
     elim c.if-plan-source.branch [
       | then-plan-source w ↦ subst goes (sym w.seat-is)
-          (rung_one _ _ _ c.requires.seat _ _ c.leaves.invariant w.ring_one.new.seat near (eq-eqb _ _ (sym its_source ∙ w.if-plan-source.true)) w.ring_one.ensures.seat w.ring_one.ensures.has)
-      | else-plan-source w ↦ subst goes (sym w.seat-is) (passed_by _ _ _ c.requires.seat _ _ c.leaves.invariant near (ne_eqb _ _ (λ same. w.if-plan-source.false (its_source ∙ same))))
+          (rung_one _ _ _ c.requires.seat _ _ c.leaves.invariant w.ring_one.new.seat near (eq-eqb _ _ (sym its_source
+          ∙ w.if-plan-source.true)) w.ring_one.ensures.seat w.ring_one.ensures.has)
+      | else-plan-source w ↦ subst goes (sym w.seat-is)
+          (passed_by _ _ _ c.requires.seat _ _ c.leaves.invariant near (ne_eqb _ _ (λ same. w.if-plan-source.false (its_source ∙ same))))
     ]

@@ -1,6 +1,6 @@
-use Rattle.std.proofs.Common.{◌≡◌, ◌∙◌, ◌+◌, ◌≤◌, length, ap, subst, arith}
+use Rattle.std.proofs.Common.{◌∙◌, ◌≤◌, length, ap, subst, arith}
 use Rattle.std.specs.Mem.Slots.{slots_counts, slots_items}
-use Rattle.sig_flag.proofs.Closes.{home_of, ends, ends_heard, ends_ready}
+use Rattle.sig_flag.proofs.Closes.{home_of, ends, ends_heard, ends_ready, reads_ready}
 use Rattle.sig_flag.proofs.Laid.{leaves_back}
 use Rattle.sig_flag.specs.Layouts.{words_of}
 use Rattle.sig_flag.specs.Machines.{Machine, IsEnd, IsHeard, IsReadyList}
@@ -25,8 +25,7 @@ pub returns-clause-ready : goal.returns-clause-ready
 returns-clause-ready g c =
     let key = c.self.inside.table.shared.key in
     let layout = layout_of g.V.Kept.plan key in
-    let first : c.slot_count.result + c.len.result ≡ length layout.plans + length layout.leaves = (λ i. (c.slot_count.ensures ∙ c.self.invariant.0.of_slots) i + (c.len.ensures ∙ ap length c.self.invariant.1) i) in
-    let ready = rw (first, c.self.invariant.2) at c.ready_tasks-ready.ensures in
+    let ready = reads_ready layout _ _ _ _ _ (c.slot_count.ensures ∙ c.self.invariant.0.of_slots) (c.len.ensures ∙ ap length c.self.invariant.1) c.self.invariant.2 c.ready_tasks-ready.ensures in
     let wide : words_of layout ≤ length (slots_items c.shut-closed.result.words) = omega (arith, c.self.invariant.0.of_words, c.shut-closed.ensures.words, (slots_counts c.shut-closed.result.words).0) in
     subst (λ (m : Machine). IsReadyList m.layout c.args.seats c.from_vec-2.result) c.self.view_is
     (rw c.from_vec-2.ensures (ends_ready layout c.args.seats _ _ wide c.shut-closed.ensures.counted ready))
@@ -35,7 +34,6 @@ pub returns-clause-heard : goal.returns-clause-heard
 returns-clause-heard g c =
     let key = c.self.inside.table.shared.key in
     let layout = layout_of g.V.Kept.plan key in
-    let first : c.slot_count.result + c.len.result ≡ length layout.plans + length layout.leaves = (λ i. (c.slot_count.ensures ∙ c.self.invariant.0.of_slots) i + (c.len.ensures ∙ ap length c.self.invariant.1) i) in
-    let ready = rw (first, c.self.invariant.2) at c.ready_tasks-ready.ensures in
+    let ready = reads_ready layout _ _ _ _ _ (c.slot_count.ensures ∙ c.self.invariant.0.of_slots) (c.len.ensures ∙ ap length c.self.invariant.1) c.self.invariant.2 c.ready_tasks-ready.ensures in
     subst (λ (m : Machine). IsHeard g.V.Kept.plan g.V.Kept.history m.layout c.args.seats c.from_vec.result c.from_vec-2.result) c.self.view_is
     (rw (c.from_vec.ensures, c.from_vec-2.ensures) (ends_heard _ _ layout c.args.seats _ _ _ _ _ c.self.invariant.0.leaves c.shut-closed.ensures.heard c.take_all.ensures ready))
