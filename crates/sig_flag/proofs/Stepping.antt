@@ -1,5 +1,5 @@
 -- One step of a seat at one source keeps the told rule, where the seat's own account fits after it and the others may stay.
-use Rattle.std.proofs.Common.{◌≡◌, ◌∙◌, ℕ, zero, suc, ◌<◌, ◌≤◌, ◌≢◌, ◌⊎◌, List, [], ◌∷◌, length, get_or, set, cond, Bool, Option, Some, refl, sym, ap, subst, inl, inr, ⊎_elim, eq-eqb, ne_eqb, arith}
+use Rattle.std.proofs.Common.{◌≡◌, ◌∙◌, ℕ, ◌<◌, ◌≤◌, ◌≢◌, List, [], ◌∷◌, length, get_or, set, cond, Bool, Option, Some, refl, sym, ap, subst, ⊎_elim, eq-eqb, ne_eqb, arith}
 use Rattle.std.proofs.lemmas.List.{get_or-set_same, get_or-set_other, length-set}
 use mathlib.Core.Logic.{dite}
 use mathlib.Core.Option as slot

@@ -1,5 +1,5 @@
 -- A machine's table at its end.
-use Rattle.std.specs.Prelude.{◌≡◌, ℕ, ◌+◌, ◌<◌, ◌==◌, List, [], length, sum_by, slice_get, slice_index_or, Bool, false, Option, Some, All}
+use Rattle.std.specs.Prelude.{◌≡◌, ℕ, ◌+◌, ◌<◌, ◌==◌, List, [], length, sum_by, slice_get, slice_index_or, Bool, false, Option, Some}
 use Rattle.atomic_table.specs.Seated.{TableId}
 use Rattle.atomic_table.specs.declared.shared.Seat.{Seat}
 use Rattle.sig_flag.specs.Accounts.{plan_at, hold}

@@ -8,7 +8,7 @@ use Rattle.sig_flag.specs.declared.accounts.Account.{Account}
 use Rattle.sig_flag.specs.declared.accounts.Knowledge.{Knowledge}
 use Rattle.sig_flag.specs.declared.shape.LeafPlan.{LeafPlan}
 use Rattle.sig_hist.proofs.Entries.{stays_in}
-use Rattle.sig_hist.specs.Histories.{ends_with_leave, is_leave, own_entries}
+use Rattle.sig_hist.specs.Histories.{is_leave, own_entries}
 use Rattle.sig_hist.specs.Sources.{Source, IsIn, entered, is_among, writers_of}
 use Rattle.sig_hist.specs.declared.edits.Entry.{Entry}
 use Rattle.trials_parts.specs.Trial.{trial_shape, IsAtWork, IsIdle, IsOwing}
