@@ -8,7 +8,7 @@ use native.Mathlib.Decide.{ℕ_discrete}
 use lib.ListN.{get_elem?}
 use Rattle.atomic_table.specs.Table.{State, Allows, step, stepped, gives, rest}
 use Rattle.sig_flag.proofs.Fronts.{front_of_itself}
-use Rattle.sig_flag.proofs.Keeping.{Whole, Keeps, balances_apart, keeps_apart, still_watching, told_after}
+use Rattle.sig_flag.proofs.Keeping.{Whole, Keeps, balances_apart, arms_apart, keeps_apart, still_watching, told_after}
 use Rattle.sig_flag.proofs.Owing.{among_front, among_back, on_source}
 use Rattle.sig_flag.proofs.Stepping.{Rule, Turned, Passes, stepped_rule, known_here, known_else, put_here, put_else}
 use Rattle.sig_flag.specs.Accounts.{account_of, known, plan_at, after_give, leaves_on, rings_for}
@@ -165,6 +165,7 @@ module _ {V : Type 0} (plan_of : V → SourcePlan) (history_of : V → List Entr
       (λ owes. among_front leaf old.rings (rings_for layout.leaves old source history) owes) (version leaf here) in
       told_after plan_of history_of layout s told id old new at source word (set s.homes source (slot.some (Some state))) later (λ beyond. absurd (omega arith))
       (λ task near. balances_apart layout s.words source word old new task (λ same. absurd (omega arith)) refl refl)
+      (λ leaf near. arms_apart layout s.words source word old new leaf (λ same. absurd (omega arith)) refl)
       (give_rule plan_of history_of layout.plans layout.seats layout.leaves s told.turns id source count closed word old state within has_slot at turn may is)
       (λ leaf here. inr (keep leaf here))
       (still_watching layout s.words after s.views views told.turns.history later old new refl refl refl keep mine)

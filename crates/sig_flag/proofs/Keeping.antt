@@ -59,6 +59,17 @@ module _ (layout : Layout) (words : List ℕ) (place value : ℕ) (old new : Acc
       (λ different. balances_apart other (λ same. different (omega arith)) (ap (λ (h : Hold). h.found) (elsewhere other different))
       (ap (λ (h : Hold). h.raised) (elsewhere other different)))
 
+-- a leaf's bell is set only where the account sets it
+abbrev pub arms_of : ℕ → Account → ℕ
+arms_of leaf account = (watch account leaf).arms
+
+abbrev pub Arms : Layout → List ℕ → List ℕ → Account → Account → ℕ → Type 0
+Arms layout words after old new leaf = slice_index after (bell_of layout leaf) + arms_of leaf old ≤ slice_index words (bell_of layout leaf) + arms_of leaf new
+
+pub arms_apart : (layout : Layout) (words : List ℕ) (place value : ℕ) (old new : Account) (leaf : ℕ) → bell_of layout leaf ≢ place → arms_of leaf new ≡ arms_of leaf old →
+    Arms layout words (set words place value) old new leaf
+arms_apart layout words place value old new leaf other same = let word = get_or-set_other words place (bell_of layout leaf) value 0 other in omega (arith, word, same)
+
 -- from the words, views and histories before a step to those after it
 module _ (layout : Layout) (words after : List ℕ) (views seen : List (List Account)) (history later : ℕ → List Entry) where
   -- what the step does not take from a leaf
@@ -101,11 +112,12 @@ module _ {V : Type 0} (plan_of : V → SourcePlan) (history_of : V → List Entr
     -- the leaves of all others are as they were: they keep all, or the seat itself polls them
     pub told_after : (word value : ℕ) (homes : List (slot.Option (Option V))) (later : ℕ → List Entry) → (length layout.plans ≤ word → value ≤ 1) →
         ((task : ℕ) → task < length layout.pollers → Balances layout s.words (set s.words word value) old new task) →
+        ((leaf : ℕ) → leaf < length layout.leaves → Arms layout s.words (set s.words word value) old new leaf) →
         Turned plan_of history_of layout.plans layout.seats (record { words = set s.words word value; homes = homes; views = set s.views id (new ∷ []) }) later →
         ((leaf : ℕ) → leaf < length layout.leaves → (old.number ≡ poller_of layout leaf) ⊎ Keeps layout s.words (set s.words word value) s.views (set s.views id (new ∷ [])) told.turns.history later leaf) →
         IsWatching layout (set s.words word value) (set s.views id (new ∷ [])) later new →
         Whole (record { words = set s.words word value; homes = homes; views = set s.views id (new ∷ []) })
-    told_after word value homes later bit balances turned keeps own =
+    told_after word value homes later bit balances arms turned keeps own =
         let after = set s.words word value in
         let seen = set s.views id (new ∷ []) in
         let mine = told.turns.accounts id 0 (old ∷ []) old at refl in
@@ -116,6 +128,10 @@ module _ {V : Type 0} (plan_of : V → SourcePlan) (history_of : V → List Entr
               (λ same. subst (λ (k : ℕ). slice_index after k ≤ 1) (sym same)
               (subst (λ (n : ℕ). n ≤ 1) (sym (get_or-set_same s.words word value 0 (omega (arith, told.wide)))) (bit (omega arith))))
               (λ other. subst (λ (n : ℕ). n ≤ 1) (sym (get_or-set_other s.words word place value 0 other)) (told.bits place beyond near));
+          armed = λ leaf near.
+              let was = told.armed leaf near in
+              let changed = arms leaf near in
+              omega (arith, was, changed, total_step (arms_of leaf) s.views id old new at);
           counts = λ task near.
               let was = told.counts task near in
               let changed = balances task near in
@@ -183,6 +199,7 @@ module _ {V : Type 0} (plan_of : V → SourcePlan) (history_of : V → List Entr
         turns = turned.0;
         wide = told.wide;
         bits = told.bits;
+        armed = λ leaf near. subst (λ (n : ℕ). slice_index s.words (bell_of layout leaf) ≤ n) (sym (same_total (arms_of leaf))) (told.armed leaf near);
         counts = λ task near. ap (λ (n : ℕ). slice_index s.words (ready_of layout task) + n) (same_total (found_of task)) ∙ told.counts task near
             ∙ ap (λ (n : ℕ). 1 + n) (sym (same_total (raised_of task)));
         watching = λ view index all account is_view is_account.

@@ -4,11 +4,11 @@ use Rattle.std.proofs.lemmas.List.{length-set}
 use mathlib.Core.Option as slot
 use lib.ListN.{get_elem?}
 use Rattle.atomic_table.specs.Table.{State, Allows, step, keeps}
-use Rattle.sig_flag.proofs.Keeping.{Whole, Keeps, found_of, raised_of, balances_apart, keeps_apart, still_watching, told_after}
+use Rattle.sig_flag.proofs.Keeping.{Whole, Keeps, found_of, raised_of, balances_apart, arms_of, arms_apart, keeps_apart, still_watching, told_after}
 use Rattle.sig_flag.proofs.Fronts.{whole_front}
 use Rattle.sig_flag.proofs.Shown.{Shows, turn_shows}
 use Rattle.sig_flag.proofs.Stepping.{Rule, Turned, stepped_rule, stays, known_here, known_else, put_same}
-use Rattle.sig_flag.proofs.Watching.{set_same, look_watching, last_look_watching}
+use Rattle.sig_flag.proofs.Watching.{set_same, changed_arms, changed_long, look_watching, last_look_watching}
 use Rattle.sig_flag.specs.Accounts.{account_of, known, plan_at, opening_knowledge, no_plan, no_hold, after_look, after_last_look, at_rest}
 use Rattle.sig_flag.specs.Layouts.{Layout, leaf_at}
 use Rattle.sig_flag.specs.Machines.{IsShown}
@@ -75,10 +75,11 @@ module _ {V : Type 0} (plan_of : V → SourcePlan) (history_of : V → List Entr
       version ≡ version_of (record { plan = plan_at layout.plans source; history = told.turns.history source }) →
       new.number ≡ old.number → new.knows ≡ (after_look layout.leaves old source version).knows → new.turn ≡ old.turn → new.rings ≡ old.rings → new.tells ≡ old.tells →
       ((task : ℕ) → (found_of task new ≡ found_of task old) × (raised_of task new ≡ raised_of task old)) →
+      ((leaf : ℕ) → leaf < length layout.leaves → arms_of leaf new ≡ arms_of leaf old) →
       ((after : List ℕ) (seen : List (List Account)) (later : ℕ → List Entry) → ((leaf : ℕ) → (leaf_at layout.leaves leaf).source ≡ source → version_at layout after seen later leaf ≡ version) →
       IsWatching layout after seen later old → IsWatching layout after seen later new) →
       Whole plan_of history_of layout (record { words = set s.words source (get_or s.words source 0); homes = s.homes; views = set s.views id (new ∷ []) })
-  look_whole s told id source version old new within at is number knows turn rings tells counts watching =
+  look_whole s told id source version old new within at is number knows turn rings tells counts arms watching =
       let mine = told.watching id 0 (old ∷ []) old at refl in
       let later = put told.turns.history source (told.turns.history source) in
       let after = set s.words source (get_or s.words source 0) in
@@ -90,6 +91,7 @@ module _ {V : Type 0} (plan_of : V → SourcePlan) (history_of : V → List Entr
       (inl (ap (λ (h : List Entry). version_of (record { plan = plan_at layout.plans (leaf_at layout.leaves leaf).source; history = h })) (same (leaf_at layout.leaves leaf).source))) in
       told_after plan_of history_of layout s told id old new at source (get_or s.words source 0) s.homes later (λ beyond. absurd (omega arith))
       (λ task near. balances_apart layout s.words source (get_or s.words source 0) old new task (λ same. absurd (omega arith)) (counts task).0 (counts task).1)
+      (λ leaf here. arms_apart layout s.words source (get_or s.words source 0) old new leaf (λ same. absurd (omega arith)) (arms leaf here))
       (look_rule plan_of history_of layout.plans layout.seats layout.leaves s told.turns id source version old new within at (ap (λ (v : Version). v.count) is) number knows turn)
       (λ leaf here. inr (keep leaf here))
       (watching after seen later
@@ -113,6 +115,7 @@ module _ {V : Type 0} (plan_of : V → SourcePlan) (history_of : V → List Entr
           tt,
           look_whole s told id source version old (after_look layout.leaves old source version) within (at ∙ ap slot.some one)
               (λ i. record { count = shows.count i; closed = shows.closed i }) refl refl refl refl refl (λ task. (refl, refl))
+              (λ leaf here. changed_arms _ layout.leaves old leaf here (told.watching id 0 (old ∷ []) old (at ∙ ap slot.some one) refl).watches)
               (λ after seen later. look_watching layout after seen later old source version),
           record {
             short = omega (arith, shows.count, legal.of_source.room, legal.of_source.plan.room);
@@ -136,6 +139,7 @@ module _ {V : Type 0} (plan_of : V → SourcePlan) (history_of : V → List Entr
         let shows = shows_version s told within in
         let news = is_news at_most version in
         let task = (leaf_at layout.leaves leaf).task in
+        let long_watches = (told.watching id 0 (old ∷ []) old there refl).watches in
         let looked = after_look layout.leaves old (leaf_at layout.leaves leaf).source version in (
           after_last_look layout.leaves old leaf at_most version ∷ [],
           keeps,
@@ -147,6 +151,9 @@ module _ {V : Type 0} (plan_of : V → SourcePlan) (history_of : V → List Entr
               (rest_leaves (λ (a : Account). a.rings) layout.leaves looked task news refl)
               (rest_leaves (λ (a : Account). a.tells) layout.leaves looked task news refl)
               (λ k. (rest_leaves (found_of k) layout.leaves looked task news (set_same (λ (h : Hold). h.found) old.holds task k _ no_hold refl), rest_leaves (raised_of k) layout.leaves looked task news (set_same (λ (h : Hold). h.raised) old.holds task k _ no_hold refl)))
+              (λ k here.
+              rest_leaves (arms_of k) layout.leaves looked task news (changed_arms _ layout.leaves looked k here (changed_long _ layout.leaves old long_watches))
+              ∙ changed_arms _ layout.leaves old k here long_watches)
               (λ after seen later shows. last_look_watching layout after seen later old leaf version news (λ other same. shows other (same ∙ on))),
           record {
             short = omega (arith, shows.count, legal.of_source.room, legal.of_source.plan.room);

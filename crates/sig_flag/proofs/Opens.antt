@@ -88,6 +88,13 @@ opening_bit sources leaves tasks place beyond =
     subst (λ (n : ℕ). n ≤ 1) (sym (get_or-append_right sources (replicate leaves 0 ++ replicate tasks 1) (length sources) place 0 refl beyond))
     (bell_bit leaves tasks (place - length sources))
 
+-- no bell is set
+opening_bell : (sources : List ℕ) (leaves tasks leaf : ℕ) → leaf < leaves → get_or (sources ++ (replicate leaves 0 ++ replicate tasks 1)) (length sources + leaf) 0 ≡ 0
+opening_bell sources leaves tasks leaf within =
+    get_or-append-add sources (replicate leaves 0 ++ replicate tasks 1) leaf 0
+    ∙ get_or_append_left (replicate leaves 0) (replicate tasks 1) 0 leaf (omega (arith, length-replicate {A = ℕ} leaves 0))
+    ∙ get_or-replicate leaves leaf 0 0 within
+
 -- each task's word says that it is told
 opening_ready : (sources : List ℕ) (leaves tasks task : ℕ) → task < tasks →
     get_or (sources ++ (replicate leaves 0 ++ replicate tasks 1)) (length sources + leaves + task) 0 ≡ 1
@@ -176,6 +183,10 @@ module _ {V : Type 0} (plan_of : V → SourcePlan) (history_of : V → List Entr
         turns = turns;
         wide = omega (arith, length-append sources more, length-append {A = ℕ} (replicate (length shape.leaves) 0) (replicate (length shape.tasks) 1), length-replicate {A = ℕ} (length shape.leaves) 0, length-replicate {A = ℕ} (length shape.tasks) 1);
         bits = λ place beyond near. opening_bit sources (length shape.leaves) (length shape.tasks) place (omega (arith, long));
+        armed = λ leaf near.
+            let word : get_or (sources ++ more) (length layout.plans + leaf) 0 ≡ 0 =
+            ap (λ (k : ℕ). get_or (sources ++ more) (k + leaf) 0) (sym long) ∙ opening_bell sources (length shape.leaves) (length shape.tasks) leaf near in
+            omega (arith, word);
         counts = λ task near.
             let holds = get_or-map (λ (poller : ℕ). no_hold) layout.pollers task 0 in
             let word : get_or (sources ++ more) (length layout.plans + length layout.leaves + task) 0 ≡ 1 =

@@ -7,21 +7,23 @@ use mathlib.Core.Option as slot
 use native.Mathlib.Decide.{ℕ_discrete}
 use lib.ListN.{get_elem?}
 use Rattle.atomic_table.specs.Table.{State, Allows, step, keeps}
-use Rattle.sig_flag.proofs.Keeping.{Whole, Keeps, Balances, balances_apart, balances_at, task_of, rings_of, tells_of, stirs, bell_kept, still_watched, still_watching, told_after}
+use Rattle.sig_flag.proofs.Keeping.{Whole, Keeps, Balances, balances_apart, balances_at, Arms, arms_apart, task_of, rings_of, tells_of, stirs, bell_kept, still_watched, still_watching, told_after}
 use Rattle.sig_flag.proofs.Owing.{still_owed, owed_now, among_front, among_back, among_one, struck_keeps}
 use Rattle.sig_flag.proofs.Stepping.{aside_rule}
-use Rattle.sig_flag.proofs.Watching.{arm_watching, tell_watching, told_watching, missed_watching}
-use Rattle.sig_flag.specs.Accounts.{account_of, watch, hold, no_hold, after_arm, after_ring, after_tell, after_collect}
+use Rattle.sig_flag.proofs.Watching.{changed_arms, arm_watching, tell_watching, told_watching, missed_watching}
+use Rattle.sig_flag.specs.Accounts.{account_of, watch, hold, no_hold, no_watch, after_arm, after_ring, after_tell, after_collect}
 use Rattle.sig_flag.specs.Layouts.{Layout, bell_of, ready_of}
 use Rattle.sig_flag.specs.Machines.{IsPolledBy, IsTaskOf}
 use Rattle.sig_flag.specs.Plays.{Seated, IsArming, IsRinging, IsTelling, IsCollecting}
 use Rattle.sig_flag.specs.Told.{IsStirred}
 use Rattle.sig_flag.specs.declared.accounts.Account.{Account}
 use Rattle.sig_flag.specs.declared.accounts.Hold.{Hold}
+use Rattle.sig_flag.specs.declared.accounts.Watch.{Watch}
 use Rattle.sig_flag.specs.declared.shape.LeafPlan.{LeafPlan}
 use Rattle.sig_hist.specs.Sources.{is_among}
 use Rattle.sig_hist.specs.declared.edits.Entry.{Entry}
 use Rattle.sig_hist.specs.declared.plans.SourcePlan.{SourcePlan}
+use Rattle.sig_hist.specs.declared.ports.Condition.TheVariants.{Armed}
 
 module _ {V : Type 0} (plan_of : V → SourcePlan) (history_of : V → List Entry) (layout : Layout) where
   module _ (s : State (Option V) (List Account)) (told : Whole plan_of history_of layout s) (id : ℕ) (old : Account) (at : get_elem? s.views id ≡ slot.some (old ∷ [])) where
@@ -44,6 +46,16 @@ module _ {V : Type 0} (plan_of : V → SourcePlan) (history_of : V → List Entr
       rings = λ _ owed. inl (still_owed rings_of s.views id old (after_arm old leaf) other at (λ owes. owes) owed);
     }
 
+    armed_arms : (leaf other : ℕ) → leaf < length layout.leaves → Arms layout s.words (set s.words (bell_of layout leaf) 1) old (after_arm old leaf) other
+    armed_arms leaf other within =
+        let mine = told.watching id 0 (old ∷ []) old at refl in
+        let word = get_or-set_same s.words (bell_of layout leaf) 1 0 (omega (arith, told.wide)) in
+        let next = ap (λ (w : Watch). w.arms) (get_or-set_same old.watches leaf (record { condition = Armed; arms = (watch old leaf).arms + 1 }) no_watch (omega (arith, mine.watches))) in
+        dite (ℕ_discrete other leaf)
+        (λ same. subst (Arms layout s.words (set s.words (bell_of layout leaf) 1) old (after_arm old leaf)) (sym same) (omega (arith, word, next)))
+        (λ different. arms_apart layout s.words (bell_of layout leaf) 1 old (after_arm old leaf) other (λ same. different (omega arith))
+        (ap (λ (w : Watch). w.arms) (get_or-set_other old.watches leaf other _ no_watch different)))
+
     armed_whole : (leaf : ℕ) → IsPolledBy layout leaf old.number → Next (bell_of layout leaf) 1 (after_arm old leaf)
     armed_whole leaf polled =
         let new = after_arm old leaf in
@@ -52,6 +64,7 @@ module _ {V : Type 0} (plan_of : V → SourcePlan) (history_of : V → List Entr
         let keep = λ (other : ℕ) (near : other < length layout.leaves). armed_keeps leaf other polled.within near in
         told_after plan_of history_of layout s told id old new at (bell_of layout leaf) 1 s.homes told.turns.history (λ _. omega arith)
         (λ task near. balances_apart layout s.words (bell_of layout leaf) 1 old new task (λ same. absurd (omega arith)) refl refl)
+        (λ other near. armed_arms leaf other polled.within)
         (aside_rule plan_of history_of layout.plans layout.seats s told.turns id (bell_of layout leaf) 1 old new (omega arith) at refl refl refl)
         (λ other near. inr (keep other near))
         (arm_watching layout after seen told.turns.history old leaf polled.within polled.poller (inl (get_or-set_same s.words (bell_of layout leaf) 1 0 (let within = polled.within in omega (arith, told.wide))))
@@ -87,12 +100,20 @@ module _ {V : Type 0} (plan_of : V → SourcePlan) (history_of : V → List Entr
               (λ different. inl (still_owed rings_of s.views id old new other at (struck_keeps leaf other old.rings different) owed));
         }
 
+    rung_arms : (leaf other : ℕ) (was_set : Bool) → leaf < length layout.leaves → Arms layout s.words (set s.words (bell_of layout leaf) 0) old (after_ring layout.leaves old leaf was_set) other
+    rung_arms leaf other was_set within =
+        let word = get_or-set_same s.words (bell_of layout leaf) 0 0 (omega (arith, told.wide)) in
+        dite (ℕ_discrete other leaf)
+        (λ same. subst (Arms layout s.words (set s.words (bell_of layout leaf) 0) old (after_ring layout.leaves old leaf was_set)) (sym same) (omega (arith, word)))
+        (λ different. arms_apart layout s.words (bell_of layout leaf) 0 old (after_ring layout.leaves old leaf was_set) other (λ same. different (omega arith)) refl)
+
     rung_whole : (leaf : ℕ) (was_set : Bool) → (get_or s.words (bell_of layout leaf) 0 == 1) ≡ was_set → leaf < length layout.leaves → Next (bell_of layout leaf) 0 (after_ring layout.leaves old leaf was_set)
     rung_whole leaf was_set is within =
         let new = after_ring layout.leaves old leaf was_set in
         let keep = λ (other : ℕ) (near : other < length layout.leaves). rung_keeps leaf other was_set is within near in
         told_after plan_of history_of layout s told id old new at (bell_of layout leaf) 0 s.homes told.turns.history (λ _. omega arith)
         (λ task near. balances_apart layout s.words (bell_of layout leaf) 0 old new task (λ same. absurd (omega arith)) refl refl)
+        (λ other near. rung_arms leaf other was_set within)
         (aside_rule plan_of history_of layout.plans layout.seats s told.turns id (bell_of layout leaf) 0 old new (omega arith) at refl refl refl)
         (λ other near. inr (keep other near))
         (still_watching layout s.words (set s.words (bell_of layout leaf) 0) s.views (set s.views id (new ∷ [])) told.turns.history told.turns.history old new refl refl refl keep (told.watching id 0 (old ∷ []) old at refl))
@@ -142,6 +163,7 @@ module _ {V : Type 0} (plan_of : V → SourcePlan) (history_of : V → List Entr
         let keep = λ (other : ℕ) (near : other < length layout.leaves). told_keeps task other was_told within near in
         told_after plan_of history_of layout s told id old new at (ready_of layout task) 1 s.homes told.turns.history (λ _. omega arith)
         (λ other _. told_counts task was_told is within other)
+        (λ leaf near. arms_apart layout s.words (ready_of layout task) 1 old new leaf (λ same. absurd (omega arith)) refl)
         (aside_rule plan_of history_of layout.plans layout.seats s told.turns id (ready_of layout task) 1 old new (omega arith) at refl refl refl)
         (λ other near. inr (keep other near))
         (tell_watching layout after seen told.turns.history old task was_told (still_watching layout s.words after s.views seen told.turns.history told.turns.history old old refl refl refl keep (told.watching id 0 (old ∷ []) old at refl)))
@@ -203,6 +225,7 @@ module _ {V : Type 0} (plan_of : V → SourcePlan) (history_of : V → List Entr
         let apart = λ (leaf : ℕ) (near : leaf < length layout.leaves) (different : task_of layout leaf ≢ task). collected_keeps task leaf true polled.within near (inl different) in
         told_after plan_of history_of layout s told id old new at (ready_of layout task) 0 s.homes told.turns.history (λ _. omega arith)
         (λ other _. collected_counts task true is polled.within other)
+        (λ leaf near. arms_apart layout s.words (ready_of layout task) 0 old new leaf (λ same. absurd (omega arith)) (changed_arms _ layout.leaves old leaf near mine.watches))
         (aside_rule plan_of history_of layout.plans layout.seats s told.turns id (ready_of layout task) 0 old new (omega arith) at refl refl refl)
         (λ leaf near. dite (ℕ_discrete (task_of layout leaf) task) (λ same. inl (polled.poller ∙ ap (λ (k : ℕ). get_or layout.pollers k 0) (sym same))) (λ different. inr (apart leaf near different)))
         (told_watching layout (set s.words (ready_of layout task) 0) (set s.views id (new ∷ [])) told.turns.history s.words s.views told.turns.history old task (let within = polled.within in omega (arith, mine.holds)) mine
@@ -216,6 +239,7 @@ module _ {V : Type 0} (plan_of : V → SourcePlan) (history_of : V → List Entr
         let keep = λ (leaf : ℕ) (near : leaf < length layout.leaves). collected_keeps task leaf false polled.within near (inr not_one) in
         told_after plan_of history_of layout s told id old new at (ready_of layout task) 0 s.homes told.turns.history (λ _. omega arith)
         (λ other _. collected_counts task false is polled.within other)
+        (λ leaf near. arms_apart layout s.words (ready_of layout task) 0 old new leaf (λ same. absurd (omega arith)) refl)
         (aside_rule plan_of history_of layout.plans layout.seats s told.turns id (ready_of layout task) 0 old new (omega arith) at refl refl refl)
         (λ leaf near. inr (keep leaf near))
         (missed_watching layout after seen told.turns.history old task (still_watching layout s.words after s.views seen told.turns.history told.turns.history old old refl refl refl keep (told.watching id 0 (old ∷ []) old at refl)))

@@ -8,9 +8,9 @@ use Rattle.std.specs.Int.Bits.{bit_or}
 use Rattle.atomic_table.specs.Table.{State, Allows, Act, Valid, step, stepped, carried_after, keeps, takes}
 use Rattle.sig_flag.proofs.Fronts.{front_of_itself}
 use Rattle.sig_flag.proofs.Shown.{IsSet, free_set, held_set}
-use Rattle.sig_flag.proofs.Keeping.{Whole, Keeps, balances_apart, keeps_apart, still_watching, told_after}
+use Rattle.sig_flag.proofs.Keeping.{Whole, Keeps, balances_apart, arms_apart, keeps_apart, still_watching, told_after}
 use Rattle.sig_flag.proofs.Stepping.{Rule, Turned, Passes, stepped_rule, stays, known_here, known_else, put_same}
-use Rattle.sig_flag.specs.Accounts.{account_of, known, plan_at, no_hold, after_turn, after_held}
+use Rattle.sig_flag.specs.Accounts.{account_of, known, plan_at, no_hold, no_watch, after_turn, after_held}
 use Rattle.sig_flag.specs.Layouts.{Layout, leaf_at}
 use Rattle.sig_flag.specs.Machines.{IsMet}
 use Rattle.sig_flag.specs.Plays.{Seated, IsTaking}
@@ -19,6 +19,7 @@ use Rattle.sig_flag.specs.Words.{free_word}
 use Rattle.sig_flag.specs.declared.accounts.Account.{Account}
 use Rattle.sig_flag.specs.declared.accounts.Hold.{Hold}
 use Rattle.sig_flag.specs.declared.accounts.Knowledge.{Knowledge}
+use Rattle.sig_flag.specs.declared.accounts.Watch.{Watch}
 use Rattle.sig_hist.specs.Histories.{IsFront, own_entries, is_closed}
 use Rattle.sig_hist.specs.Plain.{version_of}
 use Rattle.sig_hist.specs.Ports.{put}
@@ -130,7 +131,9 @@ module _ {V : Type 0} (plan_of : V → SourcePlan) (history_of : V → List Entr
       told_after plan_of history_of layout s told id old new at source word homes later (λ beyond. absurd (omega arith))
       (λ task near. balances_apart layout s.words source word old new task (λ same. absurd (omega arith))
       (ap (λ (all : List Hold). (slice_index_or all task no_hold).found) holds)
-      (ap (λ (all : List Hold). (slice_index_or all task no_hold).raised) holds)) turned (λ leaf here. inr (keep leaf here))
+      (ap (λ (all : List Hold). (slice_index_or all task no_hold).raised) holds))
+      (λ leaf near. arms_apart layout s.words source word old new leaf (λ same. absurd (omega arith)) (ap (λ (all : List Watch). (slice_index_or all leaf no_watch).arms) watches))
+      turned (λ leaf here. inr (keep leaf here))
       (still_watching layout s.words (set s.words source word) s.views (set s.views id (new ∷ [])) told.turns.history later old new number watches holds keep mine)
 
   module _ (slots id : ℕ) (me : Seated V) (source : ℕ) where

@@ -27,6 +27,15 @@ set_same f (first ∷ xs) zero (suc k) x d is = refl
 set_same f (first ∷ xs) (suc at) zero x d is = refl
 set_same f (first ∷ xs) (suc at) (suc k) x d is = set_same f xs at k x d is
 
+-- how often a leaf's bell was set stays where its condition changes
+pub changed_arms : (change : LeafPlan → Condition → Condition) (leaves : List LeafPlan) (account : Account) (leaf : ℕ) → leaf < length leaves → length account.watches ≡ length leaves →
+    (slice_index_or (changed change leaves account) leaf no_watch).arms ≡ (watch account leaf).arms
+changed_arms change leaves account leaf within long =
+    ap (λ (w : Watch). w.arms) (get_or-zip2 (λ (leaf : LeafPlan) (watch : Watch). record watch { condition = change leaf watch.condition }) leaves account.watches leaf no_leaf no_watch no_watch within (omega (arith, long)))
+
+pub changed_long : (change : LeafPlan → Condition → Condition) (leaves : List LeafPlan) (account : Account) → length account.watches ≡ length leaves → length (changed change leaves account) ≡ length leaves
+changed_long change leaves account long = length-zip2 (λ (leaf : LeafPlan) (watch : Watch). record watch { condition = change leaf watch.condition }) leaves account.watches (sym long)
+
 module _ (layout : Layout) (words : List ℕ) (views : List (List Account)) (history : ℕ → List Entry) where
   -- each leaf's condition is changed by where the leaf is, from what it was before the step
   changed_watching : (words_before : List ℕ) (views_before : List (List Account)) (history_before : ℕ → List Entry) (change : LeafPlan → Condition → Condition) (old new : Account) →

@@ -68,6 +68,8 @@ pub record Told {V : Type 0} (plan_of : V → SourcePlan) (history_of : V → Li
   pub wide : words_of layout ≤ length s.words
   -- bells and ready words are 0 or 1
   pub bits : (place : ℕ) → length layout.plans ≤ place → place < words_of layout → slice_index s.words place ≤ 1
+  -- a bell is set only where some seat has set it
+  pub armed : (leaf : ℕ) → leaf < length layout.leaves → slice_index s.words (bell_of layout leaf) ≤ total (λ account. (watch account leaf).arms) s.views
   -- each task is told at the start, and its ready word tells whether it was told once more than it was found told
   pub counts : (task : ℕ) → task < length layout.pollers →
       slice_index s.words (ready_of layout task) + total (λ account. (hold account task).found) s.views ≡ 1 + total (λ account. (hold account task).raised) s.views
