@@ -1,9 +1,12 @@
 -- The leaves of a view with its leaves numbered, and how long its lists get.
-use Rattle.std.proofs.Common.{◌≡◌, ◌∙◌, ℕ, zero, suc, ◌+◌, ◌*◌, ◌<◌, ◌≤◌, ◌==◌, max, List, [], ◌∷◌, ◌++◌, length, slice_index, Bool, true, false, All, refl, sym, ap, ap₂, subst, arith}
+use Rattle.std.proofs.Common.{◌≡◌, ◌∙◌, ℕ, zero, suc, ◌+◌, ◌*◌, ◌<◌, ◌≤◌, ◌==◌, max, List, [], ◌∷◌, ◌++◌, length, slice_index, Bool, true, false, ◌||◌, All, refl, sym, ap, ap₂, subst, arith}
 use Rattle.std.proofs.lemmas.Bool.Decides.{nat_tests}
 use Rattle.std.proofs.lemmas.List.{length-append}
 use Rattle.std.proofs.lemmas.List.FromFn.{length-range_with_len}
 use Rattle.std.specs.List.{range_with_len}
+use Rattle.sig_diff.specs.declared.contents.Content.{Content}
+use Rattle.sig_expr.proofs.Awaiting.{IsAmong, none, kept, left_out, awaits_among}
+use Rattle.sig_expr.specs.Awaited.{awaits}
 use Rattle.sig_expr.specs.Bounds.{greatest_bound, map_bound, vec_bound}
 use Rattle.sig_expr.specs.Leaves.{leaves, map_leaves, number_map, number_sig, number_sigs, number_vec, number_vecs, numbered, sig_leaves, sigs_leaves, vec_leaves, vecs_leaves}
 use Rattle.sig_expr.specs.Trees.{MapTree, map_source, mapped_values, SigTree, cell, mapped_signal, deduped, switched, length_of, total_of, at_key, VecTree, vector, mapped, filtered, filtered_by, mapped_by, sorted, joined, flattened, picked, keys_in, values_in, SigTrees, no_signals, more_signals, VecTrees, no_lists, more_lists, ViewTree, signal_view, vector_view, map_view, entries_view, tagged_view}
@@ -104,6 +107,26 @@ module _ {L : Type 0} where
 
   pub leaf_within : (view : ViewTree L) (leaf : ℕ) → is_among leaf (leaves (numbered view)) ≡ true → leaf < length (leaves view)
   leaf_within view leaf among = omega (arith, (among_numbers 0 (length (leaves view)) leaf (rw (leaves_are view) at among)).1)
+
+-- ---- awaited leaves
+
+still_among_by : (here rest all : Bool) → (rest ≡ true → all ≡ true) → (here || rest) ≡ true → (here || all) ≡ true
+still_among_by true rest all keeps among = refl
+still_among_by false rest all keeps among = keeps among
+
+or_on : (here all : Bool) → all ≡ true → (here || all) ≡ true
+or_on true all is = refl
+or_on false all is = is
+
+-- a number on the left is on the right
+still_among : {labels all : List ℕ} (leaf : ℕ) → IsAmong labels all → is_among leaf labels ≡ true → is_among leaf all ≡ true
+still_among leaf none among = among
+still_among leaf (kept l is) among = still_among_by (l == leaf) _ _ (still_among leaf is) among
+still_among leaf (left_out l is) among = or_on (l == leaf) _ (still_among leaf is among)
+
+-- a leaf that a view awaits is one of its leaves
+pub awaited_within : {L : Type 0} (view : ViewTree L) (s : ℕ → Content) (leaf : ℕ) → is_among leaf (awaits s (numbered view)) ≡ true → leaf < length (leaves view)
+awaited_within view s leaf among = leaf_within view leaf (still_among leaf (awaits_among s (numbered view)) among)
 
 -- ---- the longest list
 

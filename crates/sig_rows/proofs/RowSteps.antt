@@ -17,7 +17,7 @@ abbrev pub AreOpen : List Row → Type 0
 AreOpen [] = Unit {0}
 AreOpen (row ∷ rows) = IsOpenBody row.body × AreOpen rows
 
-last_at_append : (at : List ℕ) (rows : List Row) (row : Row) → last_at at (rows ++ row ∷ []) ≡ row.at
+pub last_at_append : (at : List ℕ) (rows : List Row) (row : Row) → last_at at (rows ++ row ∷ []) ≡ row.at
 last_at_append at [] row = refl
 last_at_append at (first ∷ rows) row = last_at_append first.at rows row
 

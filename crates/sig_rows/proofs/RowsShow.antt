@@ -27,7 +27,7 @@ ended_shows (shown.Map entries) = refl
 ended_shows (shown.Pairs pairs) = refl
 ended_shows (shown.Tagged elements) = refl
 
-ended_seen : (seen : Seen) → seen_after seen Ended ≡ seen
+pub ended_seen : (seen : Seen) → seen_after seen Ended ≡ seen
 ended_seen seen = let next : seen.next + 0 ≡ seen.next = omega arith in rw (ended_shows seen.shown, next) refl
 
 module _ (view : ViewTree ℕ) (sources : List Source) where

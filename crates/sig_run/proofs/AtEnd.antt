@@ -32,7 +32,7 @@ use Rattle.sig_run.specs.Showing.{AreShowable, IsOver, IsShowable, contents_unde
 use Rattle.sig_run.specs.Stages.{IsInStep, played_of, reported}
 use Rattle.sig_run.specs.Watching.{watched_of}
 use Rattle.sig_run.specs.declared.stage.Stage.{Stage}
-use Rattle.sig_run.specs.declared.watching.WatchedView.{WatchedView}
+use Rattle.sig_view.specs.declared.watching.WatchedView.{WatchedView}
 use Rattle.sig_script.specs.declared.types.Script.{Script}
 use Rattle.sig_script.specs.declared.types.ShareDef.{ShareDef}
 use Rattle.sig_script.specs.declared.types.SourceDef.{SourceDef}

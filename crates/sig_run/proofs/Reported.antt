@@ -23,7 +23,7 @@ use Rattle.sig_run.specs.Reporting.{reports_of, view_reports_of}
 use Rattle.sig_run.specs.Stages.{IsInStep, IsPlayable, played_of, reported}
 use Rattle.sig_run.specs.Watching.{watched_of}
 use Rattle.sig_run.specs.declared.stage.Stage.{Stage}
-use Rattle.sig_run.specs.declared.watching.WatchedView.{WatchedView}
+use Rattle.sig_view.specs.declared.watching.WatchedView.{WatchedView}
 use Rattle.sig_script.specs.Plans.{plans_of, source_plans}
 use Rattle.sig_script.specs.declared.types.Script.{Script}
 use Rattle.sig_script.specs.declared.types.ShareDef.{ShareDef}

@@ -17,8 +17,9 @@ use Rattle.sig_report.proofs.Allowing.{length_plans_of, plans_are}
 use Rattle.sig_report.proofs.Events.{map_at}
 use Rattle.sig_report.specs.Playing.{Watched}
 use Rattle.sig_run.specs.Stages.{AreFresh, AreViewsOf, IsViewOf, leaf_sources}
-use Rattle.sig_run.specs.Watching.{IsFresh, tree_of, watched_of}
-use Rattle.sig_run.specs.declared.watching.WatchedView.{WatchedView}
+use Rattle.sig_run.specs.Watching.{tree_of, watched_of}
+use Rattle.sig_view.specs.Watching.{IsUnpolled}
+use Rattle.sig_view.specs.declared.watching.WatchedView.{WatchedView}
 use Rattle.sig_script.specs.Plans.{plans_of, source_plans}
 use Rattle.sig_script.specs.Rooms.{caps_of, source_caps}
 use Rattle.sig_script.specs.SelfContained.{has_shown, has_source}
@@ -27,6 +28,7 @@ use Rattle.sig_script.specs.declared.types.ShareDef.{ShareDef}
 use Rattle.sig_script.specs.declared.types.SourceDef.{SourceDef}
 use Rattle.sig_script.specs.declared.types.ViewDef.{ViewDef}
 use Rattle.sig_script.specs.declared.types.WriterDef.{WriterDef}
+use Rattle.sig_view.proofs.WatchedRows.{unpolled_watching}
 use Rattle.sig_view.specs.Tasks.{CanPoll, IsReady, positions_of}
 
 -- ---- one view more
@@ -43,20 +45,20 @@ first_next defs place first next default within is goes =
     goes ∙ ap (λ (first : ℕ). first + length (leaves (view_tree (get_or defs place default).view))) is
     ∙ sym (ap length (leaves_next defs place default within) ∙ length-append (leaf_sources (take place defs)) (leaves (view_tree (get_or defs place default).view)))
 
-fresh_push : (caps : List ℕ) (first : ℕ) (defs : List ViewDef) (views : List WatchedView) (def : ViewDef) (view : WatchedView) → AreFresh caps first defs views → IsFresh def.view caps (first + length (leaf_sources defs)) view →
+fresh_push : (caps : List ℕ) (first : ℕ) (defs : List ViewDef) (views : List WatchedView) (def : ViewDef) (view : WatchedView) → AreFresh caps first defs views → IsUnpolled def.view caps (first + length (leaf_sources defs)) view →
     AreFresh caps first (defs ++ def ∷ []) (views ++ view ∷ [])
-fresh_push caps first [] [] def view are is = (subst (λ (first : ℕ). IsFresh def.view caps first view) (omega arith) is, tt)
+fresh_push caps first [] [] def view are is = (subst (λ (first : ℕ). IsUnpolled def.view caps first view) (omega arith) is, tt)
 fresh_push caps first [] (seen ∷ views) def view are is = absurd are
 fresh_push caps first (one ∷ defs) [] def view are is = absurd are
 fresh_push caps first (one ∷ defs) (seen ∷ views) def view are is =
     let labels : List ℕ = leaves (view_tree one.view) in
     let far : first + length (labels ++ leaf_sources defs) ≡ first + length labels + length (leaf_sources defs) = omega (arith, length-append labels (leaf_sources defs)) in
-    (are.0, fresh_push caps (first + length labels) defs views def view are.1 (subst (λ (first : ℕ). IsFresh def.view caps first view) far is))
+    (are.0, fresh_push caps (first + length labels) defs views def view are.1 (subst (λ (first : ℕ). IsUnpolled def.view caps first view) far is))
 
 pub fresh_next : (caps : List ℕ) (defs : List ViewDef) (place first : ℕ) (default : ViewDef) (views : List WatchedView) (view : WatchedView) → place < length defs → first ≡ length (leaf_sources (take place defs)) →
-    AreFresh caps 0 (take place defs) views → IsFresh (get_or defs place default).view caps first view → AreFresh caps 0 (take (place + 1) defs) (views ++ view ∷ [])
+    AreFresh caps 0 (take place defs) views → IsUnpolled (get_or defs place default).view caps first view → AreFresh caps 0 (take (place + 1) defs) (views ++ view ∷ [])
 fresh_next caps defs place first default views view within at are is =
-    rw (take_more defs place default within) (fresh_push caps 0 (take place defs) views (get_or defs place default) view are (subst (λ (first : ℕ). IsFresh (get_or defs place default).view caps first view) (at ∙ omega arith) is))
+    rw (take_more defs place default within) (fresh_push caps 0 (take place defs) views (get_or defs place default) view are (subst (λ (first : ℕ). IsUnpolled (get_or defs place default).view caps first view) (at ∙ omega arith) is))
 
 pub fresh_watched : (caps : List ℕ) (first : ℕ) (defs : List ViewDef) (views : List WatchedView) → AreFresh caps first defs views →
     map watched_of views ≡ map (λ (view : View). record { at = []; rows = [] }) (map (λ (def : ViewDef). def.view) defs)
@@ -140,7 +142,7 @@ module _ (script : Script) (unshared : script.shares ≡ []) (port : OneThread) 
         own_leaf : (leaf : ℕ) → leaf < length labels → nat_lt (length front + leaf) (length port.leaves) ≡ true
         own_leaf leaf within = let far = long in grind (arith, nat_tests)
 
-    fresh_follows : (view : WatchedView) → IsFresh shown (caps_of script) (length front) view → IsViewOf port shown view
+    fresh_follows : (view : WatchedView) → IsUnpolled shown (caps_of script) (length front) view → IsViewOf port shown view
     fresh_follows view is =
         let ready : IsReady (known port) view.task = is.is_new.ready (known port) can_poll in
         let tree : tree_of view ≡ view_tree shown = ap view_tree is.is_new.expression in
@@ -148,11 +150,9 @@ module _ (script : Script) (unshared : script.shares ≡ []) (port : OneThread) 
         record {
           expression = is.is_new.expression;
           following = record {
-            ready = ready;
+            watching = unpolled_watching (known port) shown (caps_of script) (length front) view is ready;
             on_source = λ leaf within. rw (is.is_new.first_leaf, tree) (source_is leaf (rw leaf_each at within));
-            works = is.is_new.works;
-            over = rw (is.no_rows, is.is_new.goes_on) refl;
-            showing = rw is.is_new.no_row (is.no_rows, λ leaf within. is.is_new.lacks leaf (rw leaf_each at within));
+            lacks = λ none leaf within. is.is_new.lacks leaf (rw leaf_each at within);
           };
         }
 

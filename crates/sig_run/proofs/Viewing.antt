@@ -10,28 +10,22 @@ use Rattle.sig_hist.specs.Sources.{Source}
 use Rattle.sig_report.specs.Lawful.{all_views, sources_of}
 use Rattle.sig_report.specs.Playing.{Watched, polled, view_at}
 use Rattle.sig_run.specs.Stages.{AreViewsOf, IsViewOf}
-use Rattle.sig_run.specs.Watching.{IsFollowing, IsShowing, sources_under, tree_of, watched_of}
-use Rattle.sig_run.specs.declared.watching.WatchedView.{WatchedView}
+use Rattle.sig_run.specs.Watching.{IsFollowing, sources_under, tree_of, watched_of}
+use Rattle.sig_view.specs.declared.watching.WatchedView.{WatchedView}
 use Rattle.sig_script.specs.declared.types.Script.{Script}
-use Rattle.sig_view.proofs.Later.{ready_later, same_holds}
+use Rattle.sig_view.proofs.WatchedRows.{watching_later}
 use Rattle.sig_walk.specs.Walking.{HasSeenMore}
-use Rattle.sig_view.specs.Tasks.{expression_of, first_of, has_row}
+use Rattle.sig_view.specs.Tasks.{expression_of, first_of}
 
 module _ (port later : OneThread) (more : HasSeenMore (known port) (known later)) where
   -- ---- one view
 
   module _ (view : WatchedView) (is : IsFollowing port view) where
-    showing_later : (given : Bool) → IsShowing given (known port) view → IsShowing given (known later) view
-    showing_later false showing = showing
-    showing_later true showing = (showing.0, rw (same_holds (known port) (known later) more view.task is.ready) showing.1, showing.2)
-
     pub follows_later : IsFollowing later view
     follows_later = record {
-      ready = ready_later (known port) (known later) more view.task is.ready;
+      watching = watching_later (known port) (known later) more view is.watching;
       on_source = λ leaf within. ap (λ (source : ℕ → ℕ). source (first_of view.task + leaf)) more.source ∙ is.on_source leaf within;
-      works = is.works;
-      over = is.over;
-      showing = showing_later (has_row view.task) is.showing;
+      lacks = is.lacks;
     }
 
   -- ---- all views

@@ -7,7 +7,7 @@ use Rattle.sig_report.specs.Lawful.{kind_of_view}
 use Rattle.sig_report.specs.declared.report.SourceReport.{SourceReport}
 use Rattle.sig_report.specs.declared.report.ViewReport.{ViewReport}
 use Rattle.sig_run.specs.Showing.{IsOver}
-use Rattle.sig_run.specs.declared.watching.WatchedView.{WatchedView}
+use Rattle.sig_view.specs.declared.watching.WatchedView.{WatchedView}
 use Rattle.sig_script.specs.declared.types.SourceDef.{SourceDef}
 use Rattle.sig_script.specs.declared.types.ViewDef.{ViewDef}
 use Rattle.sig_rows.specs.SoundRows.{nothing_shown, replay_of}

@@ -14,9 +14,10 @@ use Rattle.sig_report.proofs.Events.{IsPlay}
 use Rattle.sig_report.specs.Lawful.{all_views}
 use Rattle.sig_report.specs.Playing.{Played, source_names, source_reports, view_names, view_reports}
 use Rattle.sig_report.specs.declared.report.Report.{Report}
-use Rattle.sig_run.specs.Watching.{IsFollowing, IsFresh, watched_of}
+use Rattle.sig_run.specs.Watching.{IsFollowing, watched_of}
 use Rattle.sig_run.specs.declared.stage.Stage.{Stage}
-use Rattle.sig_run.specs.declared.watching.WatchedView.{WatchedView}
+use Rattle.sig_view.specs.Watching.{IsUnpolled}
+use Rattle.sig_view.specs.declared.watching.WatchedView.{WatchedView}
 use Rattle.sig_script.specs.Built.{unbuilt}
 use Rattle.sig_script.specs.Leaving.{has_no_leaves}
 use Rattle.sig_script.specs.SelfContained.{IsSelfContained}
@@ -54,7 +55,7 @@ leaf_sources defs = flat_map (λ (def : ViewDef). leaves (view_tree def.view)) d
 -- views before their first polls, the first leaf of the first of which has this number
 abbrev pub AreFresh : List ℕ → ℕ → List ViewDef → List WatchedView → Type 0
 AreFresh caps first [] [] = Unit {0}
-AreFresh caps first (def ∷ defs) (view ∷ views) = IsFresh def.view caps first view × AreFresh caps (first + length (leaves (view_tree def.view))) defs views
+AreFresh caps first (def ∷ defs) (view ∷ views) = IsUnpolled def.view caps first view × AreFresh caps (first + length (leaves (view_tree def.view))) defs views
 AreFresh caps first _ _ = ⊥
 
 pub record IsInStep (script : Script) (stage : Stage) : Type 0 where

@@ -4,12 +4,12 @@ ghost use Rattle.sig_run.specs.Reporting.{AreOver, report_of, reports_of, view_r
 ghost use Rattle.sig_run.specs.Showing.{IsOver};
 
 use crate::showing::last_shown;
-use crate::watching::WatchedView;
 use sig_diff::{NoMemory, TryCopy};
 use sig_expr::View;
 use sig_hist::SourceState;
 use sig_report::{SourceReport, SourceReports, ViewReport, ViewReports};
 use sig_script::{SourceDef, ViewDef, ViewKind};
+use sig_view::WatchedView;
 use std::alloc::Global;
 
 /// The reports of a script's sources.

@@ -12,12 +12,13 @@ ghost use Rattle.sig_walk.specs.Walking.{HasSeenMore};
 ghost use Rattle.sig_script.specs.SelfContained.{has_event};
 
 use crate::reporting::{source_reports, view_reports};
-use crate::watching::WatchedView;
+use crate::watching::{poll, watch};
 use sig_diff::{Items, LeafList, NoMemory};
 use sig_expr::{Caps, View, leaves};
 use sig_hist::{Edit, EditError, Plain};
 use sig_report::Report;
 use sig_script::{Event, Script, ViewDef, WriterDef, caps, plans};
+use sig_view::WatchedView;
 use std::alloc::{AllocError, Global};
 
 /// A play at one moment.
@@ -91,7 +92,7 @@ impl Stage {
             ≡ by_view script.now view (played_of self.old)) }
     {
         let Stage { port, views, .. } = self;
-        views[view].poll(alloc, port)
+        poll(alloc, port, &mut views[view])
     }
 
     /// The events of the schedule.
@@ -204,7 +205,7 @@ fn views_of(alloc: Global, defs: &[ViewDef], caps: &Caps) -> Result<Vec<WatchedV
     let mut views = Vec::with_capacity(alloc, defs.len())?;
     let mut first = 0;
     'views: for def in defs {
-        views.push(WatchedView::new(alloc, &def.view, caps, first)?)?;
+        views.push(watch(alloc, &def.view, caps, first)?)?;
         first = next_first(alloc, first, &def.view)?;
     }
     Ok(views)

@@ -252,7 +252,7 @@ fn put_stage(stage: &mut Stage, next: Stage)
 }
 
 /// A list of these positions.
-fn copied(alloc: Global, positions: &[u32]) -> Result<Positions, NoMemory>
+pub fn copied(alloc: Global, positions: &[u32]) -> Result<Positions, NoMemory>
     ensures { IfOk result (λ copy. copy ≡ positions.now) }
 {
     Ok(Positions::from_vec(Vec::from_slice(alloc, positions)?))

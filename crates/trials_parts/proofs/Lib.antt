@@ -1,2 +1,1 @@
 mod Edited
-pub mod Seeing

@@ -1,7 +1,7 @@
 use Rattle.std.proofs.Common.{◌≡◌, ◌⊎◌, inl, inr, ◌∙◌, length, sym}
 use Rattle.sig_run.proofs.Reported.{none_left}
 use Rattle.sig_run.specs.Reporting.{view_report_of}
-use Rattle.sig_run.specs.declared.watching.WatchedView.{WatchedView}
+use Rattle.sig_view.specs.declared.watching.WatchedView.{WatchedView}
 use Rattle.sig_run.proofs.reporting.view_reports.Goals as goal
 use Rattle.sig_script.specs.declared.types.ViewDef.{ViewDef}
 

@@ -28,11 +28,11 @@ returns-clause-step c =
     let shown = view_at script c.args.view in
     let is : IsViewOf c.args.self.now.port shown c.index_mut.result.now =
     view_read c.args.self.now.port script c.args.self.now.views.items c.args.view c.index_mut.result.now c.index_mut.ensures.value c.requires.view step.views in
-    both_on_ok {P = expression_of c.poll.new.self.task ≡ expression_of c.index_mut.result.now.task} {Q = IsFollowing c.poll.new.port c.poll.new.self} c.poll.result (λ same following. record {
+    both_on_ok {P = expression_of c.poll.new.view.task ≡ expression_of c.index_mut.result.now.task} {Q = IsFollowing c.poll.new.port c.poll.new.view} c.poll.result (λ same following. record {
       playable = step.playable;
       play = rw c.poll.ensures.sources (record { sources = step.play.sources; done = step.play.done; made = step.play.made });
       sound = c.poll.ensures.more.sound;
-      views = view_set c.poll.new.port (all_views script) c.args.self.now.views.items c.args.view (View.Vector (VecExpr.Vector 0)) c.poll.new.self
+      views = view_set c.poll.new.port (all_views script) c.args.self.now.views.items c.args.view (View.Vector (VecExpr.Vector 0)) c.poll.new.view
           (views_later c.args.self.now.port c.poll.new.port c.poll.ensures.more (all_views script) c.args.self.now.views.items step.views)
           (record { expression = same ∙ is.expression; following = following });
     }) c.poll.ensures.view c.poll.ensures.following
@@ -45,5 +45,5 @@ returns-clause-played c =
     view_read c.args.self.now.port script views c.args.view c.index_mut.result.now c.index_mut.ensures.value c.requires.view c.requires.step.views in
     let within : c.args.view < length views = omega (arith, as_many c.args.self.now.port (all_views script) views c.requires.step.views) in
     on_ok_weaker _ (λ polled.
-    let views_are = polled_views c.args.self.now.port.sources (view_at script c.args.view) views c.args.view c.index_mut.result.now c.poll.new.self within c.index_mut.ensures.value is.expression polled in
+    let views_are = polled_views c.args.self.now.port.sources (view_at script c.args.view) views c.args.view c.index_mut.result.now c.poll.new.view within c.index_mut.ensures.value is.expression polled in
     λ i. record (by_view script c.args.view (played_of c.args.self.now)) { sources = c.poll.ensures.sources i; views = views_are i }) c.poll.ensures.polled
