@@ -1,1 +1,3 @@
 mod Edited
+pub mod Seeing
+pub mod Ready

@@ -14,9 +14,13 @@ mod histories;
 #[cfg(test)]
 mod hubs;
 #[cfg(test)]
+mod moving;
+#[cfg(test)]
 mod operators;
 #[cfg(test)]
 mod outside;
+#[cfg(test)]
+mod polls;
 #[cfg(test)]
 mod ports;
 #[cfg(test)]
