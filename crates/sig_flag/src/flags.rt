@@ -106,6 +106,13 @@ impl<V: Kept> Flags<V> {
         self.leaves.as_slice()
     }
 
+    /// How many tasks it has.
+    pub fn tasks(&self) -> usize
+        ensures { result ≡ length self.now.layout.pollers }
+    {
+        self.tasks
+    }
+
     /// What the source's word shows: how many entries it has and whether it is closed. No entry is seen by it.
     pub fn look(&self, seat: &mut FlagSeat<V>, source: usize) -> Version
         requires seat { Sits self.now seat.old }

@@ -1,16 +1,17 @@
 -- What a pass knows after a turn.
-use Rattle.std.proofs.Common.{◌≡◌, ◌∙◌, ℕ, zero, suc, ◌+◌, ◌<◌, ◌==◌, List, [], ◌∷◌, ◌++◌, length, get_or, set, Bool, true, false, not, None, Result, Ok, Err, IfOk, IfErr, OnOk, OnErr, inl, inr, refl, sym, ap, subst, eq-eqb, ne_eqb, arith}
-use Rattle.std.proofs.lemmas.Bool.{eqb-true, and_parts}
+use Rattle.std.proofs.Common.{◌≡◌, ◌∙◌, ℕ, zero, suc, ◌+◌, ◌<◌, ◌==◌, List, [], ◌∷◌, ◌++◌, length, take, get_or, set, ◌≢◌, ⊎_elim, Bool, true, false, not, None, Result, Ok, Err, IfOk, IfErr, OnOk, OnErr, inl, inr, refl, sym, ap, subst, eq-eqb, ne_eqb, arith}
+use Rattle.std.proofs.lemmas.Bool.{eqb-true, eqb-false, and_parts}
 use Rattle.std.proofs.lemmas.List.{get_or-set_same, get_or-set_other, length-set, length_push}
 use Rattle.std.specs.Result.{is_ok}
 use Rattle.sig_flag.proofs.Gives.{own_leaves}
 use Rattle.sig_flag.specs.Accounts.{no_plan, opening_knowledge, known, after_turn, after_give}
-use Rattle.sig_flag.specs.Machines.{account, IsMet, IsNext, IsSameSeat, OwesNothing}
+use Rattle.sig_flag.specs.Machines.{Machine, account, IsMet, IsNext, IsSameSeat, OwesNothing}
 use Rattle.sig_flag.specs.Turns.{IsHistory}
 use Rattle.sig_flag.specs.declared.accounts.Account.{Account}
 use Rattle.sig_flag.specs.declared.accounts.Knowledge.{Knowledge}
 use Rattle.sig_hist.proofs.Entries.{own_entries_own}
 use Rattle.sig_hist.specs.Histories.{own_entries, ends_with_leave, has_left}
+use Rattle.sig_hist.specs.Ports.{IsSeen}
 use Rattle.sig_hist.specs.Sources.{Source, IsIn, IsSource, IsRefusal, allowed, entered, is_among, writers_of}
 use Rattle.sig_hist.specs.declared.edits.Edit.{Edit}
 use Rattle.sig_hist.specs.declared.edits.Entry.{Entry}
@@ -36,14 +37,35 @@ pub not_true : (b : Bool) → not b ≡ true → b ≡ false
 not_true true is = sym is
 not_true false is = refl
 
+-- ---- what is sound
+
+-- what is known of a source but the entries that the seat made
+abbrev pub seen_all : Knowledge → SourcePlan × List Entry × ℕ
+seen_all k = (k.plan, k.seen, k.count)
+
+abbrev pub IsSeenAll : SourcePlan × List Entry × ℕ → Type 0
+IsSeenAll k = IsSeen k.0 k.1 k.2
+
+-- what a source's whole history is known to be
+pub seen_whole : (source : Source) → IsSource source → IsSeen source.plan source.history (length source.history)
+seen_whole source is = record { of_plan = is.plan; legal = is.legal; known = omega arith; room = is.room; closed = λ closed. refl }
+
+-- one source was seen whole, and of the others as much is known as before
+pub seen_still : (old new : Account) (source : ℕ) → ((k : ℕ) → IsSeenAll (seen_all (known old k))) → ((other : ℕ) → other ≢ source → known new other ≡ known old other) →
+    {plan : SourcePlan} {history : List Entry} → seen_all (known new source) ≡ (plan, history, length history) → IsSource (record { plan = plan; history = history }) → (k : ℕ) → IsSeenAll (seen_all (known new k))
+seen_still old new source was others {plan} {history} here is k = elim (k == source) as (λ same. (k == source) ≡ same → IsSeenAll (seen_all (known new k))) [
+  | true ↦ λ same. subst (λ (n : ℕ). IsSeenAll (seen_all (known new n))) (sym (eqb-true k source same)) (subst IsSeenAll (sym here) (seen_whole (record { plan = plan; history = history }) is))
+  | false ↦ λ other. subst (λ (one : Knowledge). IsSeenAll (seen_all one)) (sym (others k (eqb-false k source other))) (was k)
+] refl
+
 -- ---- a turn
 
-module _ (number : ℕ) (old mid : PassSeat) (source : ℕ) (state : Source) (is_number : number ≡ (account old).number) (writes : Writes (pass_of old) source) (taken : HasTaken old mid source state None) where
+module _ (machine : Machine) (number : ℕ) (old mid : PassSeat) (source : ℕ) (state : Source) (is_number : number ≡ (account old).number) (writes : Writes (pass_of machine old) source) (taken : HasTaken old mid source state None) where
   its : IsMet its_plan its_history number (known (account old) source) state
   its = subst (λ (n : ℕ). IsMet its_plan its_history n (known (account old) source) state) (sym is_number) taken.is_met
 
   within : source < length (account old).knows
-  within = writes_known (pass_of old) source writes
+  within = writes_known (pass_of machine old) source writes
 
   -- the writer is in, by what the state says
   pub in_turn : IsIn state number
@@ -102,13 +124,19 @@ module _ (number : ℕ) (old mid : PassSeat) (source : ℕ) (state : Source) (is
         of_history = inr (entry, rw (plan_is, seen_is, number_mid) next);
       }
 
+  -- what the turn may be given back with is a source
+  sound_after : (after : Source) → MayEnd (account mid) source after → IsSource (record { plan = (known (account old) source).plan; history = after.history })
+  sound_after after may = ⊎_elim
+      (λ same. subst (λ (h : List Entry). IsSource (record { plan = (known (account old) source).plan; history = h })) (sym (same ∙ seen_mid)) its.of_history.of_source)
+      (λ more. subst (λ (k : Knowledge). IsSource (record { plan = k.plan; history = after.history })) known_mid more.1.sound) may.of_history
+
   -- by what came of an edit
   pub ends_any : (edit : Edit) (after : Source) (result : Result Reply EditError) → IfOk result (λ reply. after ≡ entered state (record { caller = number; edit = edit; reply = reply })) → OnOk result (IsSource after) →
       OnErr result (after ≡ state) → MayEnd (account mid) source after
   ends_any edit after (Ok reply) is sound same = ends_more after (record { caller = number; edit = edit; reply = reply }) is refl sound
   ends_any edit after (Err error) is sound same = ends_same after same
 
-  pub refused : (error : EditError) → IsRefusal state number error → IsRefused (pass_of old) source error
+  pub refused : (error : EditError) → IsRefusal state number error → IsRefused (pass_of machine old) source error
   refused (Spent edits) is = let plan_is : state.plan ≡ (known (account old) source).plan = its.of_plan in (is.0 ∙ ap length (sym its.own), is.1 ∙ (λ i. allowed (is_number i) (plan_is i).allow))
   refused NoMemory is = tt
 
@@ -129,61 +157,87 @@ module _ (number : ℕ) (old mid : PassSeat) (source : ℕ) (state : Source) (is
       tells = [];
     }) (reads mid _ _ taken.has).is
 
-    pub is_after : IsAfter number old new source after.history
+    turned : Account
+    turned = after_turn (record (account old) { met = taken.met }) source state.history
+
+    met_is : (account new).met ≡ taken.met
     unfolding last_account
-    is_after =
-        let turned : Account = after_turn (record (account old) { met = taken.met }) source state.history in
+    met_is = ap (λ (a : Account). a.met) is_last
+
+    here_is : known (account new) source ≡ record { plan = (known (account old) source).plan; seen = after.history; count = length after.history; own = own_entries number after.history }
+    unfolding last_account turned
+    here_is =
         let long : source < length turned.knows = rw (length-set (account old).knows source _) within in
         let turned_is : known turned source ≡ record { plan = (known (account old) source).plan; seen = state.history; count = length state.history; own = (known (account old) source).own } =
         get_or-set_same (account old).knows source _ _ within in
         let back : (account old).number ≡ number = sym is_number in
+        ap (λ (a : Account). known a source) is_last ∙ get_or-set_same turned.knows source _ _ long
+        ∙ (λ i. record { plan = (turned_is i).plan; seen = after.history; count = length after.history; own = own_entries (back i) after.history })
+
+    others_are : (other : ℕ) → other ≢ source → known (account new) other ≡ known (account old) other
+    unfolding last_account turned
+    others_are other different =
+        ap (λ (a : Account). known a other) is_last ∙ get_or-set_other turned.knows source other _ _ different ∙ get_or-set_other (account old).knows source other _ _ different
+
+    pub is_after : IsAfter number old new source after.history
+    unfolding last_account turned
+    is_after =
         let now = reads new _ _ given.has.has in
         record {
-          hub = given.same.same_table ∙ same.same_table;
-          at_rest = record {
-            one_account = now.one;
-            no_turn = record { no_turn = ap (λ (a : Account). a.turn) is_last; no_state = now.slots_are };
-            nothing = record { no_ring = ap (λ (a : Account). a.rings) is_last; no_tell = ap (λ (a : Account). a.tells) is_last };
-            of_number = is_number ∙ sym (ap (λ (a : Account). a.number) is_last);
+          station = λ machine old_station. record {
+            at_table = given.same.same_table ∙ same.same_table ∙ old_station.at_table;
+            rests = record {
+              one_account = now.one;
+              no_turn = record { no_turn = ap (λ (a : Account). a.turn) is_last; no_state = now.slots_are };
+              nothing = record { no_ring = ap (λ (a : Account). a.rings) is_last; no_tell = ap (λ (a : Account). a.tells) is_last };
+              of_number = is_number ∙ sym (ap (λ (a : Account). a.number) is_last);
+            };
+            of_layout = record {
+              sources = ap (λ (a : Account). length a.knows) is_last ∙ length-set turned.knows source _ ∙ length-set (account old).knows source _ ∙ old_station.of_layout.sources;
+              leaves = ap (λ (a : Account). length a.watches) is_last ∙ old_station.of_layout.leaves;
+              tasks = ap (λ (a : Account). length a.holds) is_last ∙ given.has.told.all ∙ ap (λ (a : Account). length a.holds) (reads mid _ _ taken.has).is ∙ old_station.of_layout.tasks;
+              sound = seen_still (account old) (account new) source old_station.of_layout.sound others_are (ap seen_all here_is) (sound_after after given.may);
+            };
           };
           same_number = ap (λ (a : Account). a.number) is_last;
-          here = ap (λ (a : Account). known a source) is_last ∙ get_or-set_same turned.knows source _ _ long
-              ∙ (λ i. record { plan = (turned_is i).plan; seen = after.history; count = length after.history; own = own_entries (back i) after.history });
-          others = λ other different. ap (λ (a : Account). known a other) is_last ∙ get_or-set_other turned.knows source other _ _ different ∙ get_or-set_other (account old).knows source other _ _ different;
+          met = ap (take (length (account old).met)) met_is ∙ taken.more;
+          here = here_is;
+          others = others_are;
         }
 
-    pub same_pass : IsSamePass (pass_of old) (pass_of new) source
-    same_pass = record { hub = is_after.hub; number = is_after.same_number; plan = ap (λ (k : Knowledge). k.plan) is_after.here; others = is_after.others }
+    pub same_pass : IsSamePass (pass_of machine old) (pass_of machine new) source
+    same_pass = record { hub = refl; met = is_after.met; number = is_after.same_number; plan = ap (λ (k : Knowledge). k.plan) is_after.here; others = is_after.others }
 
-    pub made : (entry : Entry) → after ≡ entered state entry → entry.caller ≡ number → IsSource after → HasMade (pass_of old) (pass_of new) source entry
+    pub made : (entry : Entry) → after ≡ entered state entry → entry.caller ≡ number → IsSource after → HasMade (pass_of machine old) (pass_of machine new) source entry
     made entry is caller sound =
         let history_is : after.history ≡ state.history ++ entry ∷ [] = ap its_history is in
         let plan_is : after.plan ≡ (known (account old) source).plan = ap its_plan is ∙ its.of_plan in
-        let seen_is : seen (pass_of new) source ≡ after.history = ap (λ (k : Knowledge). k.seen) is_after.here in
+        let seen_is : seen (pass_of machine new) source ≡ after.history = ap (λ (k : Knowledge). k.seen) is_after.here in
         record {
           before = state.history;
           of_own = ap (λ (k : Knowledge). k.own) is_after.here ∙ ap (own_entries number) history_is ∙ own_entries_own number state.history entry (eq-eqb entry.caller number caller)
               ∙ ap (λ (front : List Entry). front ++ entry ∷ []) (sym its.own);
           of_seen = seen_is ∙ history_is;
           front = its.front;
-          history = subst (IsHistory (plan_in (pass_of old) source)) (sym seen_is) (record {
+          count = its.count;
+          history = subst (IsHistory (plan_in (pass_of machine old) source)) (sym seen_is) (record {
             of_source = subst (λ (p : SourcePlan). IsSource (record { plan = p; history = after.history })) plan_is sound;
             leaves = λ writer. rw history_is (own_leaves writer state.history entry (entry.caller == writer) refl (its.of_history.leaves writer)
                 (λ own. subst (λ (n : ℕ). has_left n state.history ≡ false) (sym caller ∙ eqb-true entry.caller writer own) in_turn.stays));
           });
         }
 
-    pub made_none : after ≡ state → HasMadeNone (pass_of old) (pass_of new) source
+    pub made_none : after ≡ state → HasMadeNone (pass_of machine old) (pass_of machine new) source
     made_none is = record {
       of_own = ap (λ (k : Knowledge). k.own) is_after.here ∙ ap (λ (s : Source). own_entries number s.history) is ∙ sym its.own;
       front = rw (ap (λ (k : Knowledge). k.seen) is_after.here, ap its_history is) its.front;
     }
 
     pub made_any : (edit : Edit) (result : Result Reply EditError) → IfOk result (λ reply. after ≡ entered state (record { caller = number; edit = edit; reply = reply })) → OnOk result (IsSource after) →
-        IfOk result (λ reply. HasMade (pass_of old) (pass_of new) source (record { caller = number; edit = edit; reply = reply }))
+        IfOk result (λ reply. HasMade (pass_of machine old) (pass_of machine new) source (record { caller = number; edit = edit; reply = reply }))
     made_any edit (Ok reply) is sound = made (record { caller = number; edit = edit; reply = reply }) is refl sound
     made_any edit (Err error) is sound = tt
 
-    pub none_any : (result : Result Reply EditError) → IfErr result (IsRefusal state number) → OnErr result (after ≡ state) → IfErr result (λ error. HasMadeNone (pass_of old) (pass_of new) source × IsRefused (pass_of old) source error)
+    pub none_any : (result : Result Reply EditError) → IfErr result (IsRefusal state number) → OnErr result (after ≡ state) → IfErr result (λ error. HasMadeNone (pass_of machine old) (pass_of machine new) source × IsRefused (pass_of machine old) source error)
     none_any (Ok reply) why is = tt
     none_any (Err error) why is = (made_none is, refused error why)

@@ -11,7 +11,7 @@ use Rattle.sig_flag.specs.declared.accounts.Hold.{Hold}
 use Rattle.sig_flag.specs.declared.shape.LeafPlan.{LeafPlan}
 use Rattle.sig_hist.specs.Sources.{Source, is_among}
 use Rattle.sig_hub.proofs.InTurn.{Reads, reads, has_both, same_twice}
-use Rattle.sig_hub.specs.Turns.{PassSeat, HasGiven, HasRung, HasTelling, IsRinging, IsToldMore, AreToldMore}
+use Rattle.sig_hub.specs.Turns.{PassSeat, MayEnd, HasGiven, HasRung, HasTelling, IsRinging, IsToldMore, AreToldMore}
 
 struck_first : (leaf : ℕ) (others : List ℕ) → struck leaf (leaf ∷ others) ≡ others
 struck_first leaf others = ap (λ (same : Bool). cond same others (leaf ∷ struck leaf others)) (eq-eqb leaf leaf refl)
@@ -179,7 +179,7 @@ module _ (machine : Machine) (source : ℕ) (old : PassSeat) (sits : Sits machin
 
 -- ---- the end of a turn
 
-module _ (leaves : List LeafPlan) (source : ℕ) (state : Source) (old mid : PassSeat) (nothing : OwesNothing old) (same : IsSameSeat old mid) (has : Has mid (after_give leaves (account old) source state.history) []) where
+module _ (leaves : List LeafPlan) (source : ℕ) (state : Source) (old mid : PassSeat) (may : MayEnd (account old) source state) (nothing : OwesNothing old) (same : IsSameSeat old mid) (has : Has mid (after_give leaves (account old) source state.history) []) where
   given_account : Reads mid (after_give leaves (account old) source state.history) []
   given_account = reads mid _ [] has
 
@@ -195,6 +195,7 @@ module _ (leaves : List LeafPlan) (source : ℕ) (state : Source) (old mid : Pas
   pub given_rung : (new : PassSeat) → HasRung mid new → HasGiven old new source state
   given_rung new rung = record {
     same = same_twice old mid new same rung.same;
+    may = may;
     has = record {
       holds = rung.has.holds;
       told = subst (λ (a : Account). AreToldMore a.holds rung.has.holds) given_account.is rung.has.told;
@@ -205,6 +206,7 @@ module _ (leaves : List LeafPlan) (source : ℕ) (state : Source) (old mid : Pas
   pub given_unchanged : (length state.history == length (known (account old) source).seen) ≡ true → HasGiven old mid source state
   given_unchanged is = record {
     same = same;
+    may = may;
     has = has_told_none mid _ [] (has_both mid _ [] (given_account.one
         ∙ (λ i. record (account mid) { rings = rings_given true is i; tells = tells_given i } ∷ [])
         ∙ (λ i. record (given_account.is i) { rings = []; tells = [] } ∷ [])) given_account.slots_are);

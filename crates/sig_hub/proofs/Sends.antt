@@ -1,4 +1,4 @@
--- The state of a source may go to another thread, and threads may share it.
+-- The state of a source and the passes may go to another thread, and threads may share sources and a hub.
 use denote.Param.Send as Send
 use denote.RattleType.{RattleType}
 use denote.Struct.Declared as Declared
@@ -7,6 +7,7 @@ use Rattle.atomic_table.proofs.shared.Seat.TheSendSync as seat
 use Rattle.atomic_table.specs.contracts.shared.Seat as Seat
 use Rattle.sig_flag.proofs.flags.Flags.TheSendSync as flags
 use Rattle.sig_flag.specs.contracts.accounts.Account as Account
+use Rattle.sig_flag.specs.contracts.flags.Flags as Flags
 use Rattle.sig_hub.specs.contracts.hub.Hub as Hub
 use Rattle.sig_hub.specs.contracts.hub.Hub.TheInside as HubInside
 use Rattle.sig_hub.specs.contracts.passes.Left as Left
@@ -15,6 +16,8 @@ use Rattle.sig_hub.specs.contracts.passes.PollPass as PollPass
 use Rattle.sig_hub.specs.contracts.passes.PollPass.TheInside as PollInside
 use Rattle.sig_hub.specs.contracts.passes.WriterPass as WriterPass
 use Rattle.sig_hub.specs.contracts.passes.WriterPass.TheInside as WriterInside
+use Rattle.sig_hub.specs.contracts.stations.Station as Station
+use Rattle.sig_hub.specs.contracts.stations.Station.TheInside as StationInside
 use Rattle.std.proofs.option.Option.TheSendSync as option
 use Rattle.std.specs.contracts.option.Option as Option
 use Rattle.std.specs.contracts.vec.Vec as Vec
@@ -22,6 +25,7 @@ use Rattle.sig_diff.proofs.contents.Content.TheSendSync as content
 use Rattle.sig_hist.proofs.edits.Entry.TheSendSync as entry
 use Rattle.sig_hist.proofs.writers.Writer.TheSendSync as writer
 use Rattle.sig_hist.specs.contracts.edits.Entry as Entry
+use Rattle.sig_hist.specs.contracts.sources.SourceStateKept.TheImpl as KeptImpl
 use Rattle.sig_hist.specs.contracts.plans.SourcePlan as SourcePlan
 use Rattle.sig_hist.specs.contracts.sources.SourceState as SourceState
 use Rattle.sig_hist.specs.contracts.sources.SourceState.TheInside as Inside
@@ -76,17 +80,21 @@ seat_send = seat.the_send (Option.the_row SourceState.the_row) (Builtin.Array Ac
 numbers_send : Send.IsSend (Vec.the_row Builtin.usize Global.the_row TheImpl.ghosts)
 numbers_send = vec.the_send Builtin.usize Global.the_row TheImpl.ghosts (Send.plain_send _ _ _ _ _) global.the_send allocator.the_frees
 
+station_send : Send.IsSend Station.the_row
+station_send = Send.view_send StationInside.the_row _ _ _ _ (Send.recorded_send StationInside.the_field.row _ _ StationInside.the_type.to_one
+    (Send.struct_send (Declared.shape StationInside.the_type) (snapshot_send (Flags.the_row SourceState.the_row KeptImpl.ghosts), (seat_send, (Send.plain_send _ _ _ _ _, tt)))))
+
 pub pass_send : Send.IsSend WriterPass.the_row
 pass_send = Send.view_send WriterInside.the_row _ _ _ _ (Send.recorded_send WriterInside.the_field.row _ _ WriterInside.the_type.to_one
-    (Send.struct_send (Declared.shape WriterInside.the_type) (seat_send, (Send.plain_send _ _ _ _ _, (numbers_send, tt)))))
+    (Send.struct_send (Declared.shape WriterInside.the_type) (station_send, (numbers_send, tt))))
 
 pub poll_pass_send : Send.IsSend PollPass.the_row
 poll_pass_send =
-    Send.view_send PollInside.the_row _ _ _ _ (Send.recorded_send PollInside.the_field.row _ _ PollInside.the_type.to_one (Send.struct_send (Declared.shape PollInside.the_type) (seat_send, (Send.plain_send _ _ _ _ _, tt))))
+    Send.view_send PollInside.the_row _ _ _ _ (Send.recorded_send PollInside.the_field.row _ _ PollInside.the_type.to_one (Send.struct_send (Declared.shape PollInside.the_type) (station_send, tt)))
 
 pub left_send : Send.IsSend Left.the_row
 left_send =
-    Send.view_send LeftInside.the_row _ _ _ _ (Send.recorded_send LeftInside.the_field.row _ _ LeftInside.the_type.to_one (Send.struct_send (Declared.shape LeftInside.the_type) (seat_send, (Send.plain_send _ _ _ _ _, tt))))
+    Send.view_send LeftInside.the_row _ _ _ _ (Send.recorded_send LeftInside.the_field.row _ _ LeftInside.the_type.to_one (Send.struct_send (Declared.shape LeftInside.the_type) (station_send, tt)))
 
 pub hub_sync : Send.IsSync Hub.the_row
 hub_sync = Send.view_sync HubInside.the_row _ _ _ _ (Send.recorded_sync HubInside.the_field.row _ _ HubInside.the_type.to_one (Send.struct_sync (Declared.shape HubInside.the_type) (

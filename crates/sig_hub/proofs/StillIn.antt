@@ -2,6 +2,7 @@
 use Rattle.std.proofs.Common.{◌≡◌, ◌∙◌, ℕ, ◌==◌, List, Bool, true, false, not, ◌&&◌, Result, Ok, Err, IfOk, IfErr, refl, sym, ap, subst}
 use Rattle.std.proofs.lemmas.Bool.{eqb-true, eqb-false, and_parts}
 use Rattle.sig_flag.specs.Accounts.{known}
+use Rattle.sig_flag.specs.Machines.{Machine}
 use Rattle.sig_hist.proofs.Entries.{ends_with_leave_append}
 use Rattle.sig_hist.specs.Histories.{is_leave, ends_with_leave}
 use Rattle.sig_hist.specs.Sources.{is_among, writers_of}
@@ -10,7 +11,8 @@ use Rattle.sig_hist.specs.declared.edits.Entry.{Entry}
 use Rattle.sig_hist.specs.declared.edits.Reply.{Reply}
 use Rattle.sig_hist.specs.declared.plans.EditError.{EditError}
 use Rattle.sig_hub.proofs.Entered.{not_true}
-use Rattle.sig_hub.specs.Passes.{Pass, is_in, own, plan_in, AreThoseToLeave, Writes, IsSamePass, HasMade, HasMadeNone, IsRefused}
+use Rattle.sig_hub.specs.Turns.{PassSeat}
+use Rattle.sig_hub.specs.Passes.{Pass, IsOf, pass_of, is_in, own, plan_in, AreThoseToLeave, Writes, IsSamePass, HasMade, HasMadeNone, IsRefused}
 
 pub in_same : (old new : Pass) (source : ℕ) → new.account.number ≡ old.account.number → known new.account source ≡ known old.account source → is_in new source ≡ is_in old source
 in_same old new source number same i = is_among (number i) (writers_of (same i).plan.allow) && not (ends_with_leave (same i).own)
@@ -29,7 +31,7 @@ module _ (old new : Pass) (source : ℕ) (same : IsSamePass old new source) wher
       | true ↦ λ is. subst (λ (s : ℕ). is_in new s ≡ is_among s sources) (sym (eqb-true other source is)) (in_by stays writes ∙ sym writes ∙ those.each source)
       | false ↦ λ is. in_same old new other same.number (same.others other (eqb-false other source is)) ∙ those.each other
     ] refl;
-    once = those.once;
+    falling = those.falling;
   }
 
   made_stays : (entry : Entry) → HasMade old new source entry → is_leave entry.edit ≡ false → ends_with_leave (own new source) ≡ false
@@ -42,3 +44,14 @@ module _ (old new : Pass) (source : ℕ) (same : IsSamePass old new source) wher
       IfOk result (λ reply. HasMade old new source (record { caller = number; edit = edit; reply = reply })) → IfErr result (λ error. HasMadeNone old new source × IsRefused old source error) → AreThoseToLeave new sources
   listed_any number edit sources (Ok reply) those writes no_leave ok err = listed sources those writes (made_stays _ ok no_leave)
   listed_any number edit sources (Err error) those writes no_leave ok err = listed sources those writes (none_stays err.0 writes)
+
+-- by the seat of a pass that is one of the machine's
+pub listed_at : (of machine hub : Machine) (old new : PassSeat) (inside given : Pass) (source number : ℕ) (edit : Edit) (sources : List ℕ) (result : Result Reply EditError) → pass_of of old ≡ inside → inside ≡ given → machine ≡ hub → IsOf hub given →
+    AreThoseToLeave inside sources → Writes given source → is_leave edit ≡ false → IsSamePass (pass_of machine old) (pass_of machine new) source →
+    IfOk result (λ reply. HasMade (pass_of machine old) (pass_of machine new) source (record { caller = number; edit = edit; reply = reply })) →
+    IfErr result (λ error. HasMadeNone (pass_of machine old) (pass_of machine new) source × IsRefused (pass_of machine old) source error) → AreThoseToLeave (pass_of of new) sources
+listed_at of machine hub old new inside given source number edit sources result view its same_hub is_of those writes no_leave same ok err =
+    let one : machine ≡ of = same_hub ∙ sym is_of ∙ sym (ap (λ (pass : Pass). pass.hub) (view ∙ its)) in
+    let is_old : pass_of machine old ≡ given = ap (λ (m : Machine). pass_of m old) one ∙ view ∙ its in
+    subst (λ (m : Machine). AreThoseToLeave (pass_of m new) sources) one (listed_any (pass_of machine old) (pass_of machine new) source same number edit sources result
+    (subst (λ (pass : Pass). AreThoseToLeave pass sources) (its ∙ sym is_old) those) (subst (λ (pass : Pass). Writes pass source) (sym is_old) writes) no_leave ok err)

@@ -1,8 +1,10 @@
 -- A hub, and its passes at the start.
-use Rattle.std.specs.Prelude.{◌≡◌, ℕ, ◌+◌, ◌^◌, ◌<◌, List, length, map, slice_get, Some}
+use Rattle.std.specs.Prelude.{◌≡◌, ℕ, ◌+◌, ◌^◌, ◌<◌, List, length, map, slice_get, Some, All}
 use Rattle.sig_flag.specs.Accounts.{opening_account}
 use Rattle.sig_flag.specs.Machines.{Machine}
+use Rattle.sig_hist.specs.Ports.{IsSoundPort}
 use Rattle.sig_hub.specs.Passes.{Pass}
+use Rattle.sig_hub.specs.Polls.{port_of}
 use Rattle.sig_hub.specs.declared.hub.Passes.{Passes}
 use Rattle.sig_hub.specs.declared.plans.HubPlan.{HubPlan}
 
@@ -21,7 +23,7 @@ pub record IsHub (hub : HubState) : Type 0 where
 
 -- a pass at the start, which has seen and made nothing
 abbrev pub new_pass : HubState → ℕ → Pass
-new_pass hub number = record { hub = hub.machine.id; account = opening_account hub.machine.layout number }
+new_pass hub number = record { hub = hub.machine; account = opening_account hub.machine.layout number }
 
 -- so many passes, numbered from the first number on
 pub record AreNew (hub : HubState) (first count : ℕ) (passes : List Pass) : Type 0 where
@@ -37,3 +39,4 @@ pub record IsMade (plan : HubPlan) (hub : HubState) (passes : Passes) : Type 0 w
   pub of_pollers : hub.pollers ≡ plan.pollers
   pub writers : AreNew hub 0 plan.writers passes.writers
   pub pollers : AreNew hub plan.writers plan.pollers passes.pollers
+  pub sound : All (λ pass. IsSoundPort (port_of pass)) passes.pollers

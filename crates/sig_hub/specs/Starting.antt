@@ -1,5 +1,5 @@
 -- What a hub's passes are made of.
-use Rattle.std.specs.Prelude.{◌≡◌, ℕ, suc, ◌<◌, List, [], ◌∷◌, length, take, slice_index, Bool, false, All}
+use Rattle.std.specs.Prelude.{◌≡◌, ℕ, suc, ◌<◌, ◌≤◌, List, [], ◌∷◌, length, Bool, All}
 use Rattle.sig_flag.specs.Accounts.{opening_account, plan_at}
 use Rattle.sig_flag.specs.Layouts.{Layout}
 use Rattle.sig_flag.specs.Machines.{Machine, Has}
@@ -7,7 +7,7 @@ use Rattle.sig_hist.specs.Histories.{is_closed}
 use Rattle.sig_hist.specs.Sources.{Source, is_among, writers_of}
 use Rattle.sig_hist.specs.declared.plans.SourcePlan.{SourcePlan}
 use Rattle.sig_hub.specs.Hubs.{HubState, new_pass}
-use Rattle.sig_hub.specs.Passes.{Pass}
+use Rattle.sig_hub.specs.Passes.{Pass, Falls}
 use Rattle.sig_hub.specs.Turns.{PassSeat}
 use Rattle.sig_hub.specs.declared.starting.Draft.{Draft}
 
@@ -15,16 +15,17 @@ use Rattle.sig_hub.specs.declared.starting.Draft.{Draft}
 abbrev pub has_closed : Source → Bool
 has_closed state = is_closed (writers_of state.plan.allow) state.history
 
--- the sources that a writer writes, of those below a place
+-- the sources that a writer writes, of those from a place on, the greatest first
 pub record AreWritten (plans : List SourcePlan) (number place : ℕ) (sources : List ℕ) : Type 0 where
-  pub within : All (λ source. source < place) sources
-  pub each : (source : ℕ) → source < place → is_among source sources ≡ is_among number (writers_of (plan_at plans source).allow)
-  pub once : (at : ℕ) → at < length sources → is_among (slice_index sources at) (take at sources) ≡ false
+  pub within : All (λ source. source < length plans) sources
+  pub past : All (λ source. place ≤ source) sources
+  pub each : (source : ℕ) → place ≤ source → is_among source sources ≡ is_among number (writers_of (plan_at plans source).allow)
+  pub falling : Falls sources
 
 -- a writer's number, and the sources that it writes
 pub record IsDraft (plans : List SourcePlan) (number : ℕ) (draft : Draft) : Type 0 where
   pub of_number : draft.number ≡ number
-  pub of_sources : AreWritten plans number (length plans) draft.sources.items
+  pub of_sources : AreWritten plans number 0 draft.sources.items
 
 -- numbered from the first number on
 abbrev pub AreDrafts : List SourcePlan → ℕ → List Draft → Type 0

@@ -1,7 +1,7 @@
 ghost use Rattle.std.specs.Prelude.{◌≡◌, ◌+◌, ◌≤◌, List, [], ◌++◌, length, vec_capacity, IfOk, IfErr};
-ghost use Rattle.sig_hub.specs.Ends.{AreOf, IsFinished, IsRefusal};
+ghost use Rattle.sig_hub.specs.Ends.{AreOf, IsFinished, IsRefusal, listed};
 ghost use Rattle.sig_hub.specs.Passes.{Pass};
-ghost use Rattle.sig_hub.specs.Seats.{AreSeatsOf};
+ghost use Rattle.sig_hub.specs.Seats.{AreSeatsOf, IsRoomFor};
 
 use crate::hub::Hub;
 use crate::passes::{Left, Lefts, PollPass, PollPasses};
@@ -11,6 +11,9 @@ use sig_flag::States;
 use sig_hist::SourceState;
 use std::alloc::{AllocError, Global};
 use std::marker::Model;
+
+/// The numbers of tasks.
+pub type TaskList = Items<usize>;
 
 /// The passes that come back.
 #[derive(Drop)]
@@ -36,32 +39,45 @@ pub enum FinishError {
     },
 }
 
-/// The sources of a hub that is finished. Nothing else makes one.
+/// A hub that is finished. Nothing else makes one.
 #[derive(Drop)]
 pub struct Closed {
     states: States<SourceState>,
+    told: TaskList,
 }
 
 impl Model for Closed {
-    ghost use Rattle.std.specs.Prelude.{List};
-    ghost use Rattle.sig_hist.specs.Sources.{Source};
+    ghost use Rattle.sig_hub.specs.Ends.{ClosedState};
 
-    ghost Value = { List Source };
+    ghost Value = { ClosedState };
 
-    ghost view = { λ closed. closed.states };
+    ghost view = { λ closed. record { sources = closed.states; told = closed.told } };
 }
 
 impl Closed {
     /// Each source with its history.
     pub fn sources(&self) -> &States<SourceState>
-        ensures { result.now ≡ self.now }
+        ensures { result.now ≡ self.now.sources }
     {
         &self.states
     }
+
+    /// The tasks that are to be polled, in rising order.
+    pub fn told(&self) -> &TaskList
+        ensures { result.now ≡ self.now.told }
+    {
+        &self.told
+    }
+}
+
+/// What the end of a hub needs: room for the seats of all passes, and for the numbers of all tasks.
+struct FinishingRoom {
+    seats: Vec<HubSeat>,
+    told: Vec<usize>,
 }
 
 impl Hub {
-    /// The sources, once all passes are back. The memory for it is taken before anything is undone.
+    /// The sources and the tasks that are to be polled, once all passes are back. The memory for it is taken before anything is undone.
     pub fn finish(self, back: Returned) -> Result<Closed, FinishError>
         requires { AreOf self back }
         ensures ok { IfOk result (IsFinished self back) }
@@ -77,38 +93,55 @@ impl Hub {
                 back,
             });
         }
-        match room_for(self.alloc, &back) {
+        match room_for(self.alloc, &back, self.flags.tasks()) {
             Ok(room) => Ok(close(self, back, room)),
             Err(_) => Err(FinishError::NoMemory { hub: self, back }),
         }
     }
 }
 
-/// Room for the seats of all passes that come back.
-fn room_for(alloc: Global, back: &Returned) -> Result<Vec<HubSeat>, NoMemory>
-    ensures empty { IfOk result (λ room. room.items ≡ []) }
-    ensures room { IfOk result (λ room. length back.now.left + length back.now.pollers ≤ vec_capacity room) }
+/// Room for the seats of all passes that come back, and for so many tasks.
+fn room_for(alloc: Global, back: &Returned, tasks: usize) -> Result<FinishingRoom, NoMemory>
+    ensures { IfOk result (IsRoomFor back.now tasks) }
 {
     match back.left.len().checked_add(back.pollers.len()) {
-        Some(count) => Vec::with_capacity(alloc, count),
+        Some(count) => Ok(FinishingRoom {
+            seats: Vec::with_capacity(alloc, count)?,
+            told: Vec::with_capacity(alloc, tasks)?,
+        }),
         None => Err(AllocError),
     }
 }
 
 /// Closes a hub whose passes are all back.
-fn close(hub: Hub, back: Returned, room: Vec<HubSeat>) -> Closed
+fn close(hub: Hub, back: Returned, room: FinishingRoom) -> Closed
     requires back { AreOf hub back }
     requires all { hub.writers + hub.pollers ≤ length back.left + length back.pollers }
-    requires empty { room.items ≡ [] }
-    requires room { length back.left + length back.pollers ≤ vec_capacity room }
+    requires room { IsRoomFor back (length hub.machine.layout.pollers) room }
     ensures { IsFinished hub back result }
 {
     let Hub { flags, .. } = hub;
     let Returned { left, pollers } = back;
-    let seats = with_left(room, left);
+    let FinishingRoom { seats, told } = room;
+    let seats = with_left(seats, left);
     let seats = with_pollers(seats, pollers);
-    let (states, _ready) = flags.close(Items::from_vec(seats));
-    Closed { states }
+    let (states, ready) = flags.close(Items::from_vec(seats));
+    let told = Items::from_vec(ready_tasks(ready.as_slice(), told));
+    Closed { states, told }
+}
+
+/// The tasks that are ready, in rising order.
+fn ready_tasks(ready: &[bool], mut told: Vec<usize>) -> Vec<usize>
+    requires empty { told.items ≡ [] }
+    requires room { length ready.now ≤ vec_capacity told }
+    ensures { result.items ≡ listed ready.now 0 }
+{
+    'tasks: for (task, is_ready) in ready.iter().enumerate() {
+        if *is_ready {
+            told.push_reserved(task);
+        }
+    }
+    told
 }
 
 /// The seats with those of passes that have left behind them.
@@ -118,8 +151,8 @@ fn with_left(mut seats: Vec<HubSeat>, left: Lefts) -> Vec<HubSeat>
     ensures capacity { vec_capacity result ≡ vec_capacity seats }
 {
     'left: for pass in left.into_vec() {
-        let Left { seat, .. } = pass;
-        seats.push_reserved(seat);
+        let Left { station } = pass;
+        seats.push_reserved(station.into_seat());
     }
     seats
 }
@@ -131,8 +164,8 @@ fn with_pollers(mut seats: Vec<HubSeat>, pollers: PollPasses) -> Vec<HubSeat>
     ensures capacity { vec_capacity result ≡ vec_capacity seats }
 {
     'pollers: for pass in pollers.into_vec() {
-        let PollPass { seat, .. } = pass;
-        seats.push_reserved(seat);
+        let PollPass { station } = pass;
+        seats.push_reserved(station.into_seat());
     }
     seats
 }

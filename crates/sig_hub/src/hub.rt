@@ -1,7 +1,7 @@
 ghost use Rattle.std.specs.Prelude.{◌≡◌, ◌<◌, length, false, IfOk, IfErr};
 ghost use Rattle.sig_hist.specs.Histories.{is_leave};
 ghost use Rattle.sig_hub.specs.Hubs.{IsMade};
-ghost use Rattle.sig_hub.specs.Passes.{Writes, HasTold, IsSamePass, HasMade, HasMadeNone, IsRefused, HasLeft};
+ghost use Rattle.sig_hub.specs.Passes.{IsOf, Writes, HasTold, IsSamePass, HasMade, HasMadeNone, IsRefused, HasLeft};
 ghost use Rattle.sig_hub.specs.Plans.{IsSound};
 
 use crate::editing::{edit_in_turn, leave_all};
@@ -77,7 +77,7 @@ impl Hub {
         source: usize,
         edit: &Edit,
     ) -> Result<Reply, EditError>
-        requires hub { pass.old.hub ≡ self.now.machine.id }
+        requires hub { IsOf self.now.machine pass.old }
         requires source { source < length self.now.machine.layout.plans }
         requires writes { Writes pass.old source }
         requires no_leave { is_leave edit.now ≡ false }
@@ -86,23 +86,29 @@ impl Hub {
         ensures ok { IfOk result (λ reply. HasMade pass.old pass.new source (record { caller = pass.old.account.number; edit = edit.now; reply = reply })) }
         ensures err { IfErr result (λ error. HasMadeNone pass.old pass.new source × IsRefused pass.old source error) }
     {
-        let number = pass.number;
+        let number = pass.station.number;
         let edit = edit.copy()?;
-        edit_in_turn(rt, &self.flags, &mut pass.seat, number, source, &edit)
+        edit_in_turn(
+            rt,
+            &self.flags,
+            &mut pass.station.seat,
+            number,
+            source,
+            &edit,
+        )
     }
 
     /// Leaves each of the pass's sources that it hasn't left, in rising order. It takes no memory.
     pub fn leave<R: Wait>(&self, rt: &R, pass: WriterPass) -> Left
-        requires hub { pass.hub ≡ self.now.machine.id }
+        requires hub { IsOf self.now.machine pass }
         ensures left { HasLeft pass result }
         ensures told { HasTold result }
     {
         let WriterPass {
-            mut seat,
-            number,
+            mut station,
             sources,
         } = pass;
-        leave_all(rt, &self.flags, &mut seat, number, sources.as_slice());
-        Left { seat, number }
+        leave_all(rt, &self.flags, &mut station.seat, station.number, sources);
+        Left { station }
     }
 }

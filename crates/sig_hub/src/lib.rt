@@ -7,10 +7,13 @@ mod ending;
 mod hub;
 mod passes;
 mod plans;
+mod polling;
 mod starting;
+mod stations;
 mod turns;
 
-pub use ending::{Closed, FinishError, Returned};
+pub use ending::{Closed, FinishError, Returned, TaskList};
 pub use hub::{Hub, Passes};
 pub use passes::{Left, Lefts, PollPass, PollPasses, WriterPass, WriterPasses};
 pub use plans::{HubPlan, PollerOf};
+pub use polling::{Polling, Told};

@@ -1,28 +1,26 @@
 ghost use Rattle.std.specs.Prelude.{◌≡◌};
 ghost use Rattle.sig_hub.specs.Passes.{is_in};
 
+use crate::stations::Station;
 use sig_diff::Items;
-use sig_flag::FlagSeat;
-use sig_hist::SourceState;
 use std::marker::Model;
 
 /// What a writer edits the hub's sources with.
 #[derive(Drop)]
 pub struct WriterPass {
-    pub(crate) seat: FlagSeat<SourceState>,
-    pub(crate) number: u32,
-    /// The sources that it writes and hasn't left, in rising order.
+    pub(crate) station: Station,
+    /// The sources that it writes and hasn't left, the greatest first.
     pub(crate) sources: Vec<usize>,
 }
 
 impl Model for WriterPass {
-    ghost use Rattle.sig_hub.specs.Passes.{Pass, pass_of, IsAtRest, AreThoseToLeave};
+    ghost use Rattle.sig_hub.specs.Passes.{Pass, AreThoseToLeave};
 
     ghost Value = { Pass };
 
-    ghost view = { λ pass. pass_of pass.seat };
+    ghost view = { λ pass. pass.station };
 
-    ghost invariant = { λ pass. IsAtRest pass.seat pass.number × AreThoseToLeave (pass_of pass.seat) pass.sources.items };
+    ghost invariant = { λ pass. AreThoseToLeave pass.station pass.sources.items };
 }
 
 impl WriterPass {
@@ -36,21 +34,18 @@ impl WriterPass {
 
 pub type WriterPasses = Items<WriterPass>;
 
-/// What a poller looks at the hub's sources with.
+/// What a poller looks at the hub's sources with. With its hub it is a port, `Polling`.
 #[derive(Drop)]
 pub struct PollPass {
-    pub(crate) seat: FlagSeat<SourceState>,
-    pub(crate) number: u32,
+    pub(crate) station: Station,
 }
 
 impl Model for PollPass {
-    ghost use Rattle.sig_hub.specs.Passes.{Pass, pass_of, IsAtRest};
+    ghost use Rattle.sig_hub.specs.Passes.{Pass};
 
     ghost Value = { Pass };
 
-    ghost view = { λ pass. pass_of pass.seat };
-
-    ghost invariant = { λ pass. IsAtRest pass.seat pass.number };
+    ghost view = { λ pass. pass.station };
 }
 
 pub type PollPasses = Items<PollPass>;
@@ -58,18 +53,15 @@ pub type PollPasses = Items<PollPass>;
 /// A writer's pass that has left all its sources. It keeps the writer's own entries.
 #[derive(Drop)]
 pub struct Left {
-    pub(crate) seat: FlagSeat<SourceState>,
-    pub(crate) number: u32,
+    pub(crate) station: Station,
 }
 
 impl Model for Left {
-    ghost use Rattle.sig_hub.specs.Passes.{Pass, pass_of, IsAtRest};
+    ghost use Rattle.sig_hub.specs.Passes.{Pass};
 
     ghost Value = { Pass };
 
-    ghost view = { λ left. pass_of left.seat };
-
-    ghost invariant = { λ left. IsAtRest left.seat left.number };
+    ghost view = { λ left. left.station };
 }
 
 pub type Lefts = Items<Left>;

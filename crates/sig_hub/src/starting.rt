@@ -5,16 +5,18 @@ ghost use Rattle.std.specs.Vec.Iter.{into_iter_items};
 ghost use Rattle.sig_flag.specs.Layouts.{IsLeafOf};
 ghost use Rattle.sig_hist.specs.Plain.{source_of};
 ghost use Rattle.sig_hist.specs.Sources.{IsPlan};
-ghost use Rattle.sig_hub.specs.Hubs.{AreNew};
-ghost use Rattle.sig_hub.specs.Starting.{has_closed, AreWritten, AreDrafts, AreNewSeats, IsSeated};
+ghost use Rattle.sig_hub.specs.Hubs.{AreNew, new_pass};
+ghost use Rattle.sig_hub.specs.Starting.{has_closed, AreWritten, AreDrafts, IsNewSeat, AreNewSeats, IsSeated};
 
 use crate::hub::{Hub, Passes};
 use crate::passes::{PollPass, PollPasses, WriterPass, WriterPasses};
+use crate::stations::Station;
 use crate::turns::{HubFlags, HubSeat};
 use sig_diff::{Items, NoMemory};
 use sig_flag::{FlagSeats, FlagShape, Flags, LeafPlans, SeatNumbers, States};
 use sig_hist::{Allowance, Kept, Plans, SourcePlan, SourceState};
 use std::alloc::Global;
+use std::snapshot::Snapshot;
 use std::vec::IntoIter;
 
 /// The seats that have no pass yet.
@@ -116,13 +118,13 @@ pub fn drafts_of(alloc: Global, plans: &[SourcePlan], writers: u32) -> Result<Ve
     Ok(drafts)
 }
 
-/// The sources that a writer writes, in rising order.
+/// The sources that a writer writes, the greatest first.
 fn sources_by(alloc: Global, plans: &[SourcePlan], number: u32) -> Result<Vec<usize>, NoMemory>
-    ensures { IfOk result (λ sources. AreWritten plans.now number (length plans.now) sources.items) }
+    ensures { IfOk result (λ sources. AreWritten plans.now number 0 sources.items) }
 {
     let mut sources = Vec::new(alloc);
-    'plans: for (source, plan) in plans.iter().enumerate() {
-        if may_write(plan.allow.as_slice(), number) {
+    'plans: for source in (0..plans.len()).rev() {
+        if may_write(plans[source].allow.as_slice(), number) {
             sources.push(source)?;
         }
     }
@@ -143,6 +145,7 @@ impl Hub {
         seats: FlagSeats<SourceState>,
         drafts: Vec<Draft>,
     ) -> Result<Passes, NoMemory>
+        requires plans { All IsPlan self.now.machine.layout.plans }
         requires drafts { AreDrafts self.now.machine.layout.plans 0 drafts.items }
         requires writers { length drafts.items ≡ self.now.writers }
         requires seats { AreNewSeats self.now.machine 0 seats }
@@ -163,6 +166,7 @@ impl Hub {
         seats: &mut SeatIter,
         drafts: Vec<Draft>,
     ) -> Result<WriterPasses, NoMemory>
+        requires plans { All IsPlan self.now.machine.layout.plans }
         requires drafts { AreDrafts self.now.machine.layout.plans 0 drafts.items }
         requires seats { AreNewSeats self.now.machine 0 (into_iter_items seats.old) }
         requires enough { length drafts.items ≤ length (into_iter_items seats.old) }
@@ -176,8 +180,7 @@ impl Hub {
             match seats.next() {
                 None => unreachable!(),
                 Some(seat) => passes.push(WriterPass {
-                    seat,
-                    number,
+                    station: self.station(seat, number),
                     sources,
                 })?,
             }
@@ -185,8 +188,22 @@ impl Hub {
         Ok(Items::from_vec(passes))
     }
 
+    /// A seat that has seen and made nothing yet.
+    fn station(&self, seat: HubSeat, number: u32) -> Station
+        requires seat { IsNewSeat self.now.machine number seat }
+        requires plans { All IsPlan self.now.machine.layout.plans }
+        ensures { result ≡ new_pass self.now number }
+    {
+        Station {
+            of: Snapshot::of(&self.flags),
+            seat,
+            number,
+        }
+    }
+
     /// The pollers' passes, with the seats behind those of the writers.
     fn poll_passes(&self, seats: SeatIter) -> Result<PollPasses, NoMemory>
+        requires plans { All IsPlan self.now.machine.layout.plans }
         requires seats { AreNewSeats self.now.machine self.now.writers (into_iter_items seats) }
         requires few { self.now.writers + length (into_iter_items seats) < 2 ^ 32 }
         ensures { IfOk result (AreNew self.now self.now.writers (length (into_iter_items seats))) }
@@ -194,7 +211,9 @@ impl Hub {
         let mut passes = Vec::with_capacity(self.alloc, seats.len())?;
         'seats: for seat in seats {
             let number = self.writers + passes.len() as u32;
-            passes.push(PollPass { seat, number })?;
+            passes.push(PollPass {
+                station: self.station(seat, number),
+            })?;
         }
         Ok(Items::from_vec(passes))
     }

@@ -1,13 +1,14 @@
 //! The turn of a source: a seat waits for it, has the source's state meanwhile, and gives both back.
-ghost use Rattle.std.specs.Prelude.{◌≡◌, ◌<◌, [], length, true, None, Some};
-ghost use Rattle.sig_flag.specs.Accounts.{after_give, leaves_on, struck};
+ghost use Rattle.std.specs.Prelude.{◌≡◌, ◌<◌, ◌≤◌, [], length, true, None, Some, IfSome, IfOk};
+ghost use Rattle.sig_flag.specs.Accounts.{known, after_give, leaves_on, struck};
 ghost use Rattle.sig_flag.specs.Machines.{account, Sits, IsSameSeat, Has, HasNoTurn, HasTurn, OwesNothing};
 ghost use Rattle.sig_hist.specs.Sources.{Source, is_among};
-ghost use Rattle.sig_hub.specs.Turns.{HasTaken, MayEnd, HasGiven, HasRung, HasTelling, IsNextRing, has_come};
+ghost use Rattle.sig_hub.specs.Turns.{HasTaken, MayEnd, HasGiven, HasRung, HasTelling, IsFetched, IsFetchedBy, IsNextRing, has_come};
 
 use crossbeam_utils::Backoff;
+use sig_diff::NoMemory;
 use sig_flag::{FlagSeat, Flags, Taken};
-use sig_hist::{Kept, SourceState};
+use sig_hist::{FetchError, Fetched, Kept, SourceState, Version};
 use std::sync::Wait;
 
 pub type HubFlags = Flags<SourceState>;
@@ -42,6 +43,45 @@ pub fn begin<R: Wait>(rt: &R, flags: &HubFlags, seat: &mut HubSeat, source: usiz
 {
     wait_for_turn(rt, flags, seat, source);
     flags.out(seat, source)
+}
+
+/// Looks into a source in its turn, if that is free: what enters from a position on. The turn goes back whatever comes of it.
+pub fn fetch_in_turn(
+    flags: &HubFlags,
+    seat: &mut HubSeat,
+    source: usize,
+    from: Option<u32>,
+) -> Result<Fetched, FetchError>
+    requires seat { Sits flags.now seat.old }
+    requires source { source < length flags.now.layout.plans }
+    requires no_turn { HasNoTurn seat.old }
+    requires nothing { OwesNothing seat.old }
+    requires known { source < length (account seat.old).knows }
+    requires from { IfSome from (λ position. position ≤ (known (account seat.old) source).count) }
+    ensures { IsFetchedBy seat.old seat.new source from result }
+{
+    match flags.take(seat, source) {
+        Taken::Held { word } => Err(FetchError::Again { word }),
+        Taken::Turn => {
+            let state = flags.out(seat, source);
+            let fetched = fetched(&state, from);
+            give(flags, seat, source, state);
+            fetched.map_err(|_| FetchError::NoMemory)
+        }
+    }
+}
+
+/// What a source shows, and what enters from a position to the end of its history.
+fn fetched(state: &SourceState, from: Option<u32>) -> Result<Fetched, NoMemory>
+    requires { IfSome from (λ position. position ≤ length state.now.history) }
+    ensures { IfOk result (IsFetched state.now from) }
+{
+    let entering = state.entering(from)?;
+    let version = Version {
+        count: state.count(),
+        closed: state.is_closed(),
+    };
+    Ok(Fetched { version, entering })
 }
 
 /// Gives the turn of a source back, with its state, which is as it was or has one entry more. In the second case the tasks that

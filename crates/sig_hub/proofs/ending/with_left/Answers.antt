@@ -1,5 +1,6 @@
-use Rattle.std.proofs.Common.{◌∙◌, refl}
+use Rattle.std.proofs.Common.{◌∙◌, refl, ap}
 use Rattle.sig_hub.proofs.Gathered.{none_moved, moved_more}
+use Rattle.sig_hub.specs.Seats.{at_pass}
 use Rattle.sig_hub.proofs.ending.with_left.Goals as goal
 
 pub left-init : goal.left-init
@@ -7,4 +8,4 @@ left-init c = (none_moved _ _ _ (c.into_iter-pass-iterator.ensures.into_iter_giv
 
 pub left-preserved : goal.left-preserved
 left-preserved c =
-    (moved_more _ _ _ _ _ _ _ _ _ _ c.left.invariant.0 c.in-Some.ensures.steps.0 c.pass.view_is c.pass.invariant c.push_reserved.ensures.items, c.push_reserved.ensures.capacity ∙ c.left.invariant.1)
+    (moved_more _ _ _ _ _ _ _ _ _ c.left.invariant.0 c.in-Some.ensures.steps.0 (c.into_seat.ensures.same ∙ ap at_pass c.pass.view_is) c.into_seat.ensures.rests c.push_reserved.ensures.items, c.push_reserved.ensures.capacity ∙ c.left.invariant.1)

@@ -1,5 +1,8 @@
 use Rattle.std.proofs.Common.{◌∙◌, ◌+◌, ◌<◌, map, All, refl, sym, ap, subst, arith}
-use Rattle.std.proofs.lemmas.List.Elements.{All-map}
+use Rattle.std.proofs.lemmas.List.Elements.{All-map, All-weaker}
+use Rattle.sig_hist.specs.Sources.{IsPlan}
+use Rattle.sig_hub.proofs.Started.{sound_new}
+use Rattle.sig_hub.specs.Plans.{IsSourceBy}
 use Rattle.sig_hub.proofs.hub.Hub.new.Goals as goal
 
 pub flags_of-requires-clause-tasks : goal.flags_of-requires-clause-tasks
@@ -11,6 +14,7 @@ flags_of-requires-clause-tasks c =
 pub returns : goal.returns
 returns c =
     let seated = c.in_ok-flags.ensures in
+    let plans = subst (All IsPlan) (sym seated.of_plans) (All-weaker (IsSourceBy c.args.plan.writers) IsPlan (λ plan by. by.of_plan) c.args.plan.sources c.requires.sound.sources) in
     record {
       of_sources = seated.of_plans;
       of_leaves = seated.of_leaves;
@@ -19,4 +23,5 @@ returns c =
       of_pollers = refl;
       writers = c.in_ok-passes.ensures.writers;
       pollers = c.in_ok-passes.ensures.pollers;
+      sound = sound_new _ _ _ _ plans c.in_ok-passes.ensures.pollers;
     }

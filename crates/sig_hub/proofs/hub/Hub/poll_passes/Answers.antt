@@ -1,12 +1,13 @@
-use Rattle.std.proofs.Common.{◌≡◌, length, refl, subst, arith}
+use Rattle.std.proofs.Common.{◌≡◌, ◌∙◌, ◌+◌, length, arith}
 use Rattle.std.specs.Vec.Iter.{into_iter_items}
 use Rattle.sig_hub.proofs.Started.{are_new, started_more}
-use Rattle.sig_hub.specs.Hubs.{IsHub}
+use Rattle.sig_hub.specs.Hubs.{new_pass}
 use Rattle.sig_hub.proofs.hub.Hub.poll_passes.Goals as goal
 
 pub seats-preserved : goal.seats-preserved
 seats-preserved c =
-    started_more c.args.self.now _ _ _ _ _ _ c.in-Some.seat _ c.seats.invariant c.in-Some.ensures.steps.0 refl c.in_ok-push.ensures.items (subst IsHub c.self.view_is c.self.invariant)
+    let counted : c.len-in-seats.result ≡ length c.seats.passes.items = omega (arith, c.len-in-seats.ensures, c.seats.passes.ok.0) in
+    started_more c.args.self.now _ _ _ _ _ _ c.in-Some.seat _ c.seats.invariant c.in-Some.ensures.steps.0 (c.station.ensures ∙ (λ i. new_pass c.args.self.now ((c.self.view_is i).writers + counted i))) c.in_ok-push.ensures.items
 
 pub returns : goal.returns
 returns c =
