@@ -1,5 +1,5 @@
 -- The rows of a watched view are sound from poll to poll.
-use Rattle.std.proofs.Common.{◌≡◌, ◌≢◌, ◌∙◌, ℕ, zero, suc, ◌+◌, ◌<◌, List, [], ◌∷◌, ◌++◌, length, slice_index, Bool, true, false, ◌||◌, Option, refl, sym, ap, subst, arith}
+use Rattle.std.proofs.Common.{◌≡◌, ◌≢◌, ◌∙◌, ℕ, zero, suc, ◌+◌, ◌<◌, List, [], ◌∷◌, ◌++◌, length, slice_index, Bool, true, false, ◌||◌, Option, ◌⊎◌, inl, inr, refl, sym, ap, subst, true≢false, arith}
 use Rattle.std.proofs.lemmas.List.{append-nil}
 use Rattle.sig_expr.specs.Leaves.{leaves, numbered}
 use Rattle.sig_expr.specs.Shapes.{view_tree}
@@ -9,7 +9,7 @@ use Rattle.sig_hist.specs.Histories.{is_closed}
 use Rattle.sig_hist.specs.Plain.{no_source}
 use Rattle.sig_hist.specs.Ports.{IsSoundPort, PortState}
 use Rattle.sig_hist.specs.Sources.{Source, writers_of}
-use Rattle.sig_hist.specs.Ways.{Grows, contents_at, leaf_source, ways}
+use Rattle.sig_hist.specs.Ways.{GoOn, Grows, contents_at, leaf_source, ways}
 use Rattle.sig_rows.proofs.Growing.{grows_not}
 use Rattle.sig_rows.proofs.Numbering.{awaited_within}
 use Rattle.sig_rows.proofs.RowSteps.{IsOpenBody, complete_append, last_at_append, open_is_no_end, seen_of_append}
@@ -21,7 +21,8 @@ use Rattle.sig_rows.specs.declared.rows.Body.TheVariants.{Ended}
 use Rattle.sig_rows.specs.declared.rows.Row.{Row}
 use Rattle.sig_rows.specs.laws.SoundRows.{GoesOnFrom}
 use Rattle.sig_view.proofs.Later.{ready_later}
-use Rattle.sig_view.specs.Polling.{HasStayed, IsEnd, IsHeldUp, IsPoll, IsRow, IsSameTask, is_end, is_no_memory, is_pending}
+use Rattle.sig_view.proofs.Stepping.{go_on_length}
+use Rattle.sig_view.specs.Polling.{HasStayed, IsEnd, IsHeldUp, IsLaterRow, IsPoll, IsRow, IsSameTask, is_end, is_no_memory, is_pending}
 use Rattle.sig_view.specs.Tasks.{IsReady, contents_of, ended, failed, first_of, following, has_row, is_ended, is_failed, is_following, positions_of, rows_given, sources_of, tags_at, view_of}
 use Rattle.sig_view.specs.Watching.{HasRows, IsGiven, IsLost, IsUnpolled, IsWatching, seen_by}
 use Rattle.sig_view.specs.declared.watching.WatchedView.{WatchedView}
@@ -30,9 +31,11 @@ use Rattle.sig_view.specs.declared.task.Polled.TheVariants as polled
 use Rattle.sig_view.specs.declared.task.Stage.{Stage}
 use Rattle.sig_view.specs.declared.task.Stage.TheVariants.{Following}
 use Rattle.sig_view.specs.declared.task.ViewTask.{ViewTask}
+use Rattle.sig_walk.proofs.Newer.{risen_news}
 use Rattle.sig_walk.proofs.Staying.{source_of_leaf}
+use Rattle.sig_walk.proofs.Trying.{looked_same}
 use Rattle.sig_walk.specs.Waiting.{HasPolled}
-use Rattle.sig_walk.specs.Walking.{HasSeenMore, Progress, seen_source, seen_sources}
+use Rattle.sig_walk.specs.Walking.{HasNews, HasSeenMore, Progress, seen_source, seen_sources}
 
 -- ---- at the start
 
@@ -139,8 +142,8 @@ module _ (s t : PortState) (old : WatchedView) (new : ViewTask) (is : IsWatching
   incomplete : are_complete old.rows ≡ false
   incomplete = is.complete ∙ open_
 
-  lost : HasPolled s t old.task.walk false → IsLost s t old (with_rows old.rows)
-  lost polled = record { ready = ready; polled = polled; rows = refl; sound = rw same_view still_sound }
+  lost : HasPolled s t old.task.walk false → (has_row old.task ≡ true → HasNews t old.task.walk ⊎ (is_ended new ≡ true)) → IsLost s t old (with_rows old.rows)
+  lost polled cause = record { ready = ready; polled = polled; rows = refl; sound = rw same_view still_sound; cause = cause }
 
   module _ (works : is_failed new ≡ false) where
     -- ---- a row
@@ -242,8 +245,8 @@ module _ {T : Type 0} (s t : PortState) (old : WatchedView) (new : ViewTask) (to
     still_works : is_no_memory answer ≡ false → is_failed new ≡ false
     still_works some = poll.next.failed ∙ rw (is.works, some) refl
 
-    pub lost_by : is_pending answer ≡ false → IsLost s t old (record { task = new; rows = old.rows })
-    lost_by never = lost s t old new is open_ poll.ready poll.same more (rw never at poll.polled)
+    lost_by : is_pending answer ≡ false → (has_row old.task ≡ true → HasNews t old.task.walk ⊎ (is_ended new ≡ true)) → IsLost s t old (record { task = new; rows = old.rows })
+    lost_by never cause = lost s t old new is open_ poll.ready poll.same more (rw never at poll.polled) cause
 
   pub row_given : (row : Row) (token : T) (held : Option ℕ) → IsPoll s t old.task new told (polled.Batch row token held) → IsGiven s t old (with_given (row ∷ [])) told (polled.Batch row token held) (row ∷ [])
   row_given row token held poll = record {
@@ -279,3 +282,26 @@ module _ {T : Type 0} (s t : PortState) (old : WatchedView) (new : ViewTask) (to
     rows = refl;
     watching = ends_soundly s t old new is open_ poll.ready poll.same (more _ poll) (still_works _ poll refl) poll.answer_is (poll.next.row ∙ rw poll.answer_is.stayed.row refl) poll.next.ended;
   }
+
+  -- ---- where memory was wanting
+
+  -- the row that a view with a row gave came of news
+  row_news : (row : Row) (token : T) (held : Option ℕ) → IsPoll s t old.task new told (polled.Batch row token held) → has_row old.task ≡ true → HasNews t old.task.walk
+  row_news row token held poll given =
+      let has : HasRows true old = rw given at is.rows in
+      let later : IsLaterRow s t old.task new row = rw given at poll.answer_is.sound in
+      let next = later.sound (seen_by old) (rows_show s old is has) (has.2 open_) in
+      let goes : GoOn (positions_of old.task) (positions_of new) = rw poll.answer_is.at at next.goes_on in
+      risen_news {s = t} (record { looked = looked_same t; first = poll.same.first; leaves = go_on_length (positions_of old.task) (positions_of new) goes; can = poll.ready.can }) goes (λ same. next.moves (poll.answer_is.at ∙ same))
+
+  pub row_lost : (row : Row) (token : T) (held : Option ℕ) → IsPoll s t old.task new told (polled.Batch row token held) → IsLost s t old (record { task = new; rows = old.rows })
+  row_lost row token held poll = lost_by _ poll refl (λ given. inl (row_news row token held poll given))
+
+  pub end_lost : IsPoll s t old.task new told polled.Ended → IsLost s t old (record { task = new; rows = old.rows })
+  end_lost poll = lost_by _ poll refl (λ given. inr poll.next.ended)
+
+  pub task_lost : IsPoll s t old.task new told polled.NoMemory → IsLost s t old (record { task = new; rows = old.rows })
+  task_lost poll = lost_by _ poll refl (λ given. inl (poll.answer_is given))
+
+  pub never_failed : IsPoll s t old.task new told polled.Failed → IsLost s t old (record { task = new; rows = old.rows })
+  never_failed poll = absurd (true≢false (poll.next.refused ∙ is.works))

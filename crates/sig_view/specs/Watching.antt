@@ -1,5 +1,5 @@
 -- A view with the rows that its polls gave.
-use Rattle.std.specs.Prelude.{◌≡◌, ◌≢◌, ℕ, List, [], ◌∷◌, ◌++◌, Bool, true, false, Option}
+use Rattle.std.specs.Prelude.{◌≡◌, ◌≢◌, ℕ, List, [], ◌∷◌, ◌++◌, Bool, true, false, Option, ◌⊎◌}
 use Rattle.sig_expr.specs.declared.expressions.View.{View}
 use Rattle.sig_hist.specs.Ports.{PortState}
 use Rattle.sig_rows.specs.SoundRows.{AreSound, Seen, are_complete, last_at, nothing_seen, seen_of, tags_of}
@@ -11,6 +11,7 @@ use Rattle.sig_view.specs.declared.task.Polled.{Polled}
 use Rattle.sig_view.specs.declared.task.Polled.TheVariants as polled
 use Rattle.sig_view.specs.declared.watching.WatchedView.{WatchedView}
 use Rattle.sig_walk.specs.Waiting.{HasPolled}
+use Rattle.sig_walk.specs.Walking.{HasNews}
 use Rattle.sig_view.specs.declared.watching.Watched.{Watched}
 use Rattle.sig_view.specs.declared.watching.Watched.TheVariants as watched
 
@@ -40,12 +41,14 @@ pub record IsWatching (s : PortState) (view : WatchedView) : Type 0 where
 
 -- ---- a poll
 
--- memory was wanting: the rows are as they were, and sound for what the port has seen by then
+-- memory was wanting: the rows are as they were, and sound for what the port has seen by then. After the first row that takes a leaf whose source has
+-- shown more than the leaf had passed, or a view that has ended, whose last row takes memory too
 pub record IsLost (s t : PortState) (old new : WatchedView) : Type 0 where
   pub ready : IsReady t new.task
   pub polled : HasPolled s t old.task.walk false
   pub rows : new.rows ≡ old.rows
   pub sound : AreSound (view_of new.task) (sources_of t new.task) new.rows
+  pub cause : has_row old.task ≡ true → HasNews t old.task.walk ⊎ (is_ended new.task ≡ true)
 
 module _ {T : Type 0} (s t : PortState) (old new : WatchedView) (told : T) where
   -- the task was polled, with this answer, and these rows came behind the others

@@ -2,7 +2,7 @@ use Rattle.std.proofs.Common.{◌≡◌, List, ◌∷◌, [], refl, subst, sym}
 use Rattle.sig_hist.specs.Ports.{PortState}
 use Rattle.sig_rows.specs.declared.rows.Body.TheVariants.{Ended}
 use Rattle.sig_rows.specs.declared.rows.Row.{Row}
-use Rattle.sig_view.proofs.WatchedRows.{again_given, end_given, lost_by, pending_given, row_given}
+use Rattle.sig_view.proofs.WatchedRows.{again_given, end_given, end_lost, never_failed, pending_given, row_given, row_lost, task_lost}
 use Rattle.sig_view.proofs.watching.WatchedView.poll.Goals as goal
 use Rattle.sig_view.specs.Tasks.{positions_of}
 use Rattle.sig_view.specs.Watching.{IsGiven, IsLost}
@@ -18,7 +18,7 @@ returns-in-Ok-clause-watched g c = (
 
 pub returns-in-Err-clause-watched : goal.returns-in-Err-clause-watched
 returns-in-Err-clause-watched g c =
-    rw c.in-Err.ensures.err (lost_by (g.P.Port.state c.args.port.now) (g.P.Port.state c.poll.new.port) c.args.self.now c.poll.new.self c.args.told c.requires.watching c.requires.open _ c.in-Batch.ensures.poll refl)
+    rw c.in-Err.ensures.err (row_lost (g.P.Port.state c.args.port.now) (g.P.Port.state c.poll.new.port) c.args.self.now c.poll.new.self c.args.told c.requires.watching c.requires.open c.in-Batch.row c.in-Batch.told c.in-Batch.held c.in-Batch.ensures.poll)
 
 pub returns-in-Pending-clause-watched : goal.returns-in-Pending-clause-watched
 returns-in-Pending-clause-watched g c =
@@ -44,12 +44,12 @@ returns-in-Err-push_end-clause-watched g c =
     let s : PortState = g.P.Port.state c.args.port.now in
     let t : PortState = g.P.Port.state c.poll.new.port in
     subst (λ (view : WatchedView). IsLost s t c.args.self.now view) (ended_view c.push_end.ensures.task c.in-Err-push_end.ensures.none)
-    (lost_by s t c.args.self.now c.poll.new.self c.args.told c.requires.watching c.requires.open _ c.in-Ended.ensures.poll refl)
+    (end_lost s t c.args.self.now c.poll.new.self c.args.told c.requires.watching c.requires.open c.in-Ended.ensures.poll)
 
 pub returns-in-NoMemory-clause-watched : goal.returns-in-NoMemory-clause-watched
 returns-in-NoMemory-clause-watched g c =
-    lost_by (g.P.Port.state c.args.port.now) (g.P.Port.state c.poll.new.port) c.args.self.now c.poll.new.self c.args.told c.requires.watching c.requires.open _ c.in-NoMemory.ensures.poll refl
+    task_lost (g.P.Port.state c.args.port.now) (g.P.Port.state c.poll.new.port) c.args.self.now c.poll.new.self c.args.told c.requires.watching c.requires.open c.in-NoMemory.ensures.poll
 
 pub returns-in-Failed-clause-watched : goal.returns-in-Failed-clause-watched
 returns-in-Failed-clause-watched g c =
-    lost_by (g.P.Port.state c.args.port.now) (g.P.Port.state c.poll.new.port) c.args.self.now c.poll.new.self c.args.told c.requires.watching c.requires.open _ c.in-Failed.ensures.poll refl
+    never_failed (g.P.Port.state c.args.port.now) (g.P.Port.state c.poll.new.port) c.args.self.now c.poll.new.self c.args.told c.requires.watching c.requires.open c.in-Failed.ensures.poll
