@@ -1,11 +1,17 @@
-//! Plays each script that a list names, and says where what is printed isn't the report that lies beside it.
+//! Plays each script that a list names, and says where what is printed isn't the report that lies beside it, or where a view that is polled over a
+//! hub gives other rows.
 #![tactic(auto)]
 
+mod hub_plays;
+#[cfg(test)]
+mod hubs;
 mod running;
+mod stages;
 #[cfg(test)]
 mod tests;
 mod texts;
 
+use crate::hub_plays::gives_rows;
 use crate::running::run;
 use crate::texts::expanded;
 use sig_io::Page;
@@ -27,7 +33,7 @@ fn main(rt: HostRuntime) -> io::Result<()> {
     for name in names.as_str().lines() {
         let script = read(&rt, name, "json")?;
         let report = read(&rt, name, "txt")?;
-        if prints(&rt, rt.alloc(), script.as_str(), report.as_str())? {
+        if is_as_written(&rt, rt.alloc(), script.as_str(), report.as_str())? {
             as_written = as_written.saturating_add(1);
         } else {
             println!(rt; "{name} differs")?;
@@ -43,14 +49,27 @@ fn read(rt: &HostRuntime, name: &str, kind: &str) -> io::Result<String> {
     Ok(expanded(rt.alloc(), text.as_str())?)
 }
 
-/// Whether the program prints this report or refusal for a script, and ends as it should then.
-fn prints<R: Threads + Wait + Sync>(
+/// Whether the program prints this report or refusal for a script, and a hub gives the report's rows.
+fn is_as_written<R: Threads + Wait + Sync>(
     rt: &R,
     alloc: Global,
     script: &str,
     report: &str,
 ) -> Result<bool, AllocError> {
-    let wanted = if report.starts_with("script ") { 4 } else { 0 };
+    if report.starts_with("script ") {
+        return prints(rt, alloc, script, report, 4);
+    }
+    Ok(prints(rt, alloc, script, report, 0)? && gives_rows(rt, alloc, script.as_bytes(), report)?)
+}
+
+/// Whether the program prints this for a script, and ends with this status.
+fn prints<R: Threads + Wait + Sync>(
+    rt: &R,
+    alloc: Global,
+    script: &str,
+    report: &str,
+    wanted: u8,
+) -> Result<bool, AllocError> {
     let mut page = Page::new(alloc, ROOM, ROOM, Vec::new(alloc))?;
     let status = run(rt, alloc, &["play"], script.as_bytes(), 0, &mut page)?;
     Ok(status == wanted && page.as_slice() == report.as_bytes())

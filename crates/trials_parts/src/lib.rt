@@ -12,8 +12,6 @@ mod flags;
 #[cfg(test)]
 mod histories;
 #[cfg(test)]
-mod hubs;
-#[cfg(test)]
 mod moving;
 #[cfg(test)]
 mod operators;

@@ -1,6 +1,6 @@
 use denote.Param.Send.{sendable}
 use Rattle.sig_hub.proofs.Sends.{pass_send, left_send, hub_sync}
-use Rattle.trials_parts.proofs.hubs.push_twice.Goals as goal
+use Rattle.trials.proofs.hubs.push_and_follow.Goals as goal
 
 pub join-requires-send-F : goal.join-requires-send-F
 join-requires-send-F g c κs within = let sync = c.type_bounds.sync-R in search (sendable, pass_send, hub_sync) depth 30

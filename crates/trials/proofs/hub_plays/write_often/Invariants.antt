@@ -1,0 +1,5 @@
+use Rattle.trials.specs.Stages.{IsStage}
+use Rattle.trials.proofs.hub_plays.write_often.Given as goal
+
+abbrev pub invariant-events : goal.invariant-events
+invariant-events g l = IsStage l.stage
