@@ -13,8 +13,8 @@ mod Reaches
 mod Readies
 mod Rings
 mod Shown
-mod Stepping
+pub mod Stepping
 mod Takes
 mod Totals
 mod Views
-mod Watching
+pub mod Watching

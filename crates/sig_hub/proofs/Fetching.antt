@@ -3,6 +3,7 @@ use Rattle.std.proofs.Common.{◌≡◌, ◌∙◌, ℕ, ◌<◌, List, length, 
 use Rattle.std.proofs.lemmas.Bool.{ltb-true, and_parts}
 use Rattle.std.proofs.lemmas.List.{get_or-set_same}
 use Rattle.std.proofs.lemmas.List.Elements.{All-get_or}
+use Rattle.sig_flag.proofs.Watching.{set_same}
 use Rattle.sig_flag.specs.Accounts.{no_plan, opening_knowledge, known, knowing}
 use Rattle.sig_flag.specs.Layouts.{IsLeafOf, leaf_at, no_leaf}
 use Rattle.sig_flag.specs.Machines.{Machine, account}
@@ -20,7 +21,7 @@ use Rattle.sig_hist.specs.declared.ports.FetchError.{FetchError}
 use Rattle.sig_hist.specs.declared.ports.FetchError.TheVariants.{Again, NoMemory}
 use Rattle.sig_hist.specs.declared.ports.Version.{Version}
 use Rattle.sig_hub.proofs.InTurn.{reads}
-use Rattle.sig_hub.proofs.Ported.{read_set, set_same}
+use Rattle.sig_hub.proofs.Ported.{read_set}
 use Rattle.sig_hub.proofs.Stepped.{same_machine}
 use Rattle.sig_hub.specs.Passes.{Pass, IsOf, IsStation, pass_of}
 use Rattle.sig_hub.specs.Polls.{polls, port_of}

@@ -1,10 +1,12 @@
 -- What a look, a rest and an asking for a token do to what an account knows as a port.
-use Rattle.std.proofs.Common.{◌≡◌, ◌∙◌, ℕ, zero, suc, ◌+◌, ◌-◌, ◌^◌, ◌<◌, ◌≤◌, ◌==◌, min, List, [], ◌∷◌, length, slice_index_or, get_or, set, nat_lt, cond, Bool, true, false, not, ◌||◌, ◌≢◌, refl, sym, ap, subst, eq-eqb, ne_eqb, arith}
+use Rattle.std.proofs.Common.{◌≡◌, ◌∙◌, ℕ, zero, suc, ◌+◌, ◌-◌, ◌^◌, ◌<◌, ◌≤◌, ◌==◌, min, List, [], ◌∷◌, length, slice_index_or, get_or, set, nat_lt, cond, Bool, true, false, not, ◌||◌, ◌≢◌, refl, sym, ap, subst, ne_eqb, arith}
 use Rattle.std.proofs.lemmas.Bool.{ltb-true, ltb-false}
 use Rattle.std.proofs.lemmas.List.{get_or-set_other, get_or_past, length-set}
-use Rattle.std.proofs.lemmas.Simd.{get_or-zip2, length-zip2}
+use Rattle.std.proofs.lemmas.Simd.{get_or-zip2}
 use mathlib.Core.Logic.{dite}
 use native.Mathlib.Decide.{ℕ_discrete}
+use Rattle.sig_flag.proofs.Stepping.{by_place, put_here, put_else}
+use Rattle.sig_flag.proofs.Watching.{changed_long, set_same}
 use Rattle.sig_flag.specs.Accounts as accounts
 use Rattle.sig_flag.specs.Accounts.{no_plan, no_watch, no_hold, opening_knowledge, known, watch, hold, changed, after_look, after_collect, woken}
 use Rattle.sig_flag.specs.Layouts.{leaf_at, no_leaf}
@@ -26,27 +28,6 @@ use Rattle.sig_hub.specs.Polls.{collected, port_of}
 
 -- ---- parts of an account, read after a change
 
-put_here : {X : Type 0} (f : ℕ → X) (at : ℕ) (x : X) → put f at x at ≡ x
-put_here f at x = ap (λ (same : Bool). cond same x (f at)) (eq-eqb at at refl)
-
-put_else : {X : Type 0} (f : ℕ → X) (at k : ℕ) (x : X) → k ≢ at → put f at x k ≡ f k
-put_else f at k x other = ap (λ (same : Bool). cond same x (f k)) (ne_eqb k at other)
-
--- what holds with the new value at its number, and elsewhere as before, holds everywhere
-by_place : {X : Type 0} (P : ℕ → X → Type 0) (f : ℕ → X) (at : ℕ) (x : X) → P at x → ((k : ℕ) → P k (f k)) → (k : ℕ) → P k (put f at x k)
-by_place {X} P f at x here others k =
-    dite (ℕ_discrete k at)
-    (λ same. subst (λ (j : ℕ). P j (put f at x j)) (sym same) (subst (P at) (sym (put_here f at x)) here))
-    (λ other. subst (P k) (sym (put_else f at k x other)) (others k))
-
--- what is read of an element stays where it is written as it was
-pub set_same : {X Y : Type 0} (f : X → Y) (xs : List X) (at k : ℕ) (x d : X) → f x ≡ f (get_or xs at d) → f (get_or (set xs at x) k d) ≡ f (get_or xs k d)
-set_same f [] at k x d is = refl
-set_same f (first ∷ xs) zero zero x d is = is
-set_same f (first ∷ xs) zero (suc k) x d is = refl
-set_same f (first ∷ xs) (suc at) zero x d is = refl
-set_same f (first ∷ xs) (suc at) (suc k) x d is = set_same f xs at k x d is
-
 read_there : {X Y : Type 0} (f : X → Y) (xs : List X) (at : ℕ) (x d : X) → (length xs ≤ at → f x ≡ f d) → f (get_or (set xs at x) at d) ≡ f x
 read_there f [] at x d past = sym (past (omega arith))
 read_there f (first ∷ xs) zero x d past = refl
@@ -58,9 +39,6 @@ read_set {X} {Y} f xs at k x d past =
     dite (ℕ_discrete k at)
     (λ same. subst (λ (j : ℕ). f (get_or (set xs at x) j d) ≡ put (λ n. f (get_or xs n d)) at (f x) j) (sym same) (read_there f xs at x d past ∙ sym (put_here (λ n. f (get_or xs n d)) at (f x))))
     (λ other. ap f (get_or-set_other xs at k x d other) ∙ sym (put_else (λ n. f (get_or xs n d)) at k (f x) other))
-
-changed_long : (change : LeafPlan → Condition → Condition) (leaves : List LeafPlan) (a : Account) → length a.watches ≡ length leaves → length (changed change leaves a) ≡ length leaves
-changed_long change leaves a long = length-zip2 (λ (plan : LeafPlan) (w : Watch). record w { condition = change plan w.condition }) leaves a.watches (sym long)
 
 -- each leaf's condition is changed; that of no leaf is idle
 changed_at : (change : LeafPlan → Condition → Condition) (leaves : List LeafPlan) (a : Account) → length a.watches ≡ length leaves → ((plan : LeafPlan) → change plan Idle ≡ Idle) → (leaf : ℕ) →
@@ -100,8 +78,8 @@ module _ (a : Account) (source : ℕ) (version : Version) (shown : IsShown (know
         set_same (λ (x : Knowledge). x.seen) a.knows source k next none refl i,
         read_set (λ (x : Knowledge). x.count) a.knows source k next none shown_past i,
       ) in
-      subst IsSeenAll (sym parts) (by_place (λ j count. IsSeenAll ((known a j).plan, (known a j).seen, count)) (λ j. (known a j).count) source version.count
-      (record { of_plan = was.of_plan; legal = was.legal; known = omega (arith, was.known, shown.count); room = shown.room; closed = shown.whole }) sound k)
+      subst IsSeenAll (sym parts) (by_place (λ j count (same : ℕ). IsSeenAll ((known a j).plan, (known a j).seen, count)) (λ j. (known a j).count) (λ j. (known a j).count) source version.count version.count
+      (record { of_plan = was.of_plan; legal = was.legal; known = omega (arith, was.known, shown.count); room = shown.room; closed = shown.whole }) (λ j other. sound j) k)
 
   pub looked_port : (machine : Machine) → length a.watches ≡ length machine.layout.leaves →
       port_of (record { hub = machine; account = after_look machine.layout.leaves a source version }) ≡ looked (port_of (record { hub = machine; account = a })) source version
