@@ -12,6 +12,9 @@ use std::alloc::Global;
 use std::marker::Model;
 
 /// The elements of a list whose signal of a bank isn't 0: an element's signal is the one of its class.
+///
+/// By the signals 1 and 0 it shows the list 4, 1, 3 as 4, since the class of a number is its remainder by 2. Where the second signal goes to 1
+/// it gives an insertion of 1 at 1 and one of 3 at 2.
 #[derive(Debug, Drop)]
 pub struct FilterBy {
     items: Items<i64>,

@@ -12,6 +12,9 @@ use std::alloc::Global;
 use std::marker::Model;
 
 /// Each element of a list plus its signal of a bank, as far as 64 bits reach: an element's signal is the one of its class.
+///
+/// By the signals 10 and 0 it shows the list 4, 1, 3 as 14, 1, 3. Where the second signal goes to 5 it gives an update of 6 at 1 and one of 8
+/// at 2.
 #[derive(Debug, Drop)]
 pub struct MapBy {
     items: Items<i64>,

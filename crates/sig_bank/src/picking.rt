@@ -12,6 +12,9 @@ use std::alloc::Global;
 use std::marker::Model;
 
 /// The list of a bank that a chooser's value chooses, by its class.
+///
+/// Of two lists the chooser 3 chooses the second. For a push of 7 to that one it gives the push, for one to the first nothing, and where the
+/// chooser goes to 4 a replacement by the first.
 #[derive(Debug, Drop)]
 pub struct Pick {
     chooser: i64,

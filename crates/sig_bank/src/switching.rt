@@ -8,6 +8,9 @@ use std::alloc::Global;
 use std::marker::Model;
 
 /// The signal of a bank that a chooser's value chooses, by its class.
+///
+/// Of the signals 10 and 20 the chooser 3 chooses the second, so it shows 20. Where the second goes to 21 it gives 21, where the first goes to
+/// 11 nothing, and where the chooser goes to 4 then 11.
 #[derive(Debug, Drop)]
 pub struct Switch {
     chooser: i64,

@@ -17,6 +17,9 @@ use std::alloc::Global;
 use std::marker::Model;
 
 /// For each element of an outer list the whole list of a bank that it chooses, by its class.
+///
+/// By the lists 7, 8 and 9 of two it shows the outer list 0, 1 as 7, 8, 9. For a push of 5 to the second list it then gives an insertion of
+/// 5 at 3, and for a removal at 0 of the outer list two removals at 0.
 #[derive(Debug, Drop)]
 pub struct Flatten {
     outer: Items<i64>,

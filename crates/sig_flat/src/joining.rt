@@ -11,6 +11,8 @@ use std::alloc::Global;
 use std::marker::Model;
 
 /// Two lists, one behind the other. Contracts see it as how long they are.
+///
+/// It shows the lists 4, 1 and 9 as 4, 1, 9. For a push of 7 to the left one it then gives an insertion of 7 at 2.
 #[derive(Debug, Drop)]
 pub struct Concat {
     left: u32,

@@ -4,7 +4,7 @@ use Rattle.sig_flag.specs.Accounts.{watch, hold, woken}
 use Rattle.sig_flag.specs.Layouts.{leaf_at, poller_of}
 use Rattle.sig_flag.specs.Machines.{Machine}
 use Rattle.sig_hist.specs.Ports.{PortState, put}
-use Rattle.sig_hub.specs.Passes.{Pass, plan_in, seen, seen_count}
+use Rattle.sig_hub.specs.Passes.{Pass, HasTold, plan_in, seen, seen_count}
 
 -- whether the pass polls the task of the leaf
 abbrev pub polls : Pass → ℕ → Bool
@@ -26,10 +26,11 @@ port_of pass = record {
   met = pass.account.met;
 }
 
--- the same pass after one of its calls
+-- the same pass after one of its calls, which leave nothing to ring and nothing to tell
 pub record IsSamePoller (old new : Pass) : Type 0 where
   pub hub : new.hub ≡ old.hub
   pub number : new.account.number ≡ old.account.number
+  pub told : HasTold old → HasTold new
 
 -- ---- tokens
 

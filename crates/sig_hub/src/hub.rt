@@ -16,6 +16,9 @@ use std::marker::Model;
 use std::sync::Wait;
 
 /// Sources that several threads edit, each with a pass of its own.
+///
+/// Of one empty vector that one writer may edit once: an `edit` of it that pushes 7 answers `Fine`, and a second one `Spent { made: 1 }`. After
+/// the writer's `leave` the hub's `finish` gives the vector with the history push 7, leave.
 #[derive(Drop)]
 pub struct Hub {
     pub(crate) alloc: Global,

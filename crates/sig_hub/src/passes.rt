@@ -1,4 +1,4 @@
-ghost use Rattle.std.specs.Prelude.{◌≡◌};
+ghost use Rattle.std.specs.Prelude.{◌≡◌, ◌<◌, length, true};
 ghost use Rattle.sig_hub.specs.Passes.{is_in};
 
 use crate::stations::Station;
@@ -24,9 +24,10 @@ impl Model for WriterPass {
 }
 
 impl WriterPass {
-    /// Whether it may edit a source: it is one of the source's writers, and hasn't left.
+    /// Whether it may edit a source: that is one of the hub's, it is one of the source's writers, and it hasn't left.
     pub fn is_in(&self, source: usize) -> bool
-        ensures { result ≡ is_in self.now source }
+        ensures is_in { result ≡ is_in self.now source }
+        ensures within { result ≡ true → source < length self.now.hub.layout.plans }
     {
         self.sources.as_slice().contains(&source)
     }

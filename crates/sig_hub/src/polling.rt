@@ -162,9 +162,9 @@ impl Port for Polling<'_> {
         pass.station.rest(&hub.flags, leaf, at, told)
     }
 
-    ghost same_now = { λ polling. (refl, refl, record { hub = refl; number = refl }) };
+    ghost same_now = { λ polling. (refl, refl, record { hub = refl; number = refl; told = λ told. told }) };
 
-    ghost same_later = { λ polling next last first second. (second.0 ∙ first.0, second.1 ∙ first.1, record { hub = second.2.hub ∙ first.2.hub; number = second.2.number ∙ first.2.number }) };
+    ghost same_later = { λ polling next last first second. (second.0 ∙ first.0, second.1 ∙ first.1, record { hub = second.2.hub ∙ first.2.hub; number = second.2.number ∙ first.2.number; told = λ told. second.2.told (first.2.told told) }) };
 
     ghost told_later = { λ polling next told task same is. Prim.search Rattle.std.proofs.Common.rules };
 }

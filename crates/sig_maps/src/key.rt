@@ -8,6 +8,8 @@ use sig_diff::{Entries, MapDiff, MapDiffs};
 use std::marker::Model;
 
 /// The value at a key of a map, or a default where the map has none, as a signal. It takes no memory.
+///
+/// At the key 2, with the default 0, it shows the map of 1 to 10 as 0. For the insertion of 20 at 2 it then gives 20, and for one at 3 nothing.
 #[derive(Debug, Drop)]
 pub struct KeyOf {
     key: i64,

@@ -125,6 +125,8 @@ impl Listing for Pairs {
 }
 
 /// A map as a list. Contracts see it as the map that it stands for.
+///
+/// The values of the map of 1 to 10 and 3 to 30 are shown as 10, 30. For the insertion of 20 at 2 it then gives an insertion of 20 at 1.
 #[derive(Debug, Drop)]
 pub struct ListOp<L> {
     map: Entries<i64>,

@@ -9,6 +9,8 @@ use std::alloc::Global;
 use std::marker::Model;
 
 /// A map with a function at its values. Contracts see it as its function.
+///
+/// By `neg` it shows the map of 1 to 10 as the map of 1 to -10. For the removal of 1 it then gives that removal.
 #[derive(Debug, Drop)]
 pub struct MapValue<M> {
     mapper: M,

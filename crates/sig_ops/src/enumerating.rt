@@ -17,7 +17,10 @@ struct TagPlace {
     place: u32,
 }
 
-/// The elements of a list with tags. Contracts see it as the elements with their tags, and the next tag.
+/// The elements of a list with tags, which stay with their elements. Contracts see it as the elements with their tags, and the next tag.
+///
+/// It shows the list 4, 1 as 4 with the tag 0 and 1 with the tag 1. For a removal at 0 it then gives that removal, for a push of 9 a push of
+/// 9 with the tag 2, and `place_of` finds the tag 1 at 0.
 #[derive(Debug, Drop)]
 pub struct EnumerateOp {
     elements: Items<Tagged>,

@@ -9,6 +9,9 @@ use std::alloc::Global;
 use std::marker::Model;
 
 /// The items that pass a test. Contracts see it as its test and the list that it stands for.
+///
+/// By "at least 3" it shows the list 4, 1, 3 as 4, 3. For an update of 5 at 1 it then gives an insertion of 5 at 1, and for a push of 2
+/// nothing.
 #[derive(Debug, Drop)]
 pub struct FilterOp<T, P> {
     tester: P,

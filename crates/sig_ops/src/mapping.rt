@@ -7,6 +7,8 @@ use std::alloc::Global;
 use std::marker::{Model, PhantomData};
 
 /// The images of the items. Contracts see it as its function.
+///
+/// By `neg` it shows the list 4, 1 as -4, -1. For an update of 7 at 1 it then gives an update of -7 at 1.
 #[derive(Debug, Drop)]
 pub struct MapOp<T, U, M> {
     mapper: M,

@@ -11,6 +11,8 @@ use std::alloc::Global;
 use std::marker::Model;
 
 /// The length of a list, as a signal.
+///
+/// Of the list 4, 1 it shows 2. For a push it then gives 3, and for an update nothing.
 #[derive(Debug, Drop)]
 pub struct LenOp {
     len: u32,
@@ -84,6 +86,8 @@ fn changed(last: i64, present: i64) -> Option<i64>
 }
 
 /// The exact total of a list, clamped once to 64 bits, as a signal.
+///
+/// Of the list 4, 1 it shows 5. For an update of 3 at 0 it then gives 4, and for a move nothing.
 #[derive(Debug, Drop)]
 pub struct SumOp {
     items: Items<i64>,
@@ -189,6 +193,8 @@ fn total_after(before: i128, items: &[i64], diff: &VecDiff<i64>) -> i128
 }
 
 /// A signal that gives only values that differ from the last.
+///
+/// After a start with 4 it gives nothing for 4, and then 5 for 5.
 #[derive(Debug, Drop)]
 pub struct Dedupe {
     last: i64,

@@ -1,7 +1,6 @@
 //! The program below its `main`: the words of the command line, playing a script, and the report.
 #![tactic(auto)]
 
-mod gate;
 mod playing;
 mod program;
 mod reporting;
@@ -10,6 +9,6 @@ mod stage;
 mod watching;
 mod words;
 
-pub use gate::{Gate, Open};
 pub use program::signals;
+pub use sig_exec::{Gate, Open};
 pub use words::Words;

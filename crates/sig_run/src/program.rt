@@ -9,10 +9,10 @@ ghost use Rattle.sig_script.specs.Sizes.{size_fault};
 ghost use Rattle.sig_script.specs.Starts.{StartsInOrder};
 ghost use Rattle.sig_run.specs.Program.{line_of, refusal_line, IsReportOf, IsReport, IsRefusal, IsAnswer, Answers, IsSilent, Answered};
 
-use crate::gate::Gate;
 use crate::playing::play;
 use crate::words::Words;
 use sig_diff::NoMemory;
+use sig_exec::Gate;
 use sig_io::{ReadError, Sink, Source, read_all, write_all};
 use sig_report::{play_is_lawful, report_text};
 use sig_script::{Script, ScriptError, read_script};

@@ -67,7 +67,8 @@ module _ (s t : PortState) (more : HasSeenMore s t) where
   each_grows first (suc count) zero = source_grows first
   each_grows first (suc count) (suc leaf) = each_grows (first + 1) count leaf
 
-  later_sound : (view : ViewTree ℕ) (first count : ℕ) (rows : List Row) → AreSound view (seen_sources s first count) rows → AreSound view (seen_sources t first count) rows
+  -- rows that are sound for what was seen stay so
+  pub later_sound : (view : ViewTree ℕ) (first count : ℕ) (rows : List Row) → AreSound view (seen_sources s first count) rows → AreSound view (seen_sources t first count) rows
   later_sound view first count rows sound = stay_sound view _ _ (record { count = as_many first count; each = each_grows first count }) rows sound
 
   pub watching_later : (view : WatchedView) → IsWatching s view → IsWatching t view
@@ -143,7 +144,7 @@ module _ (s t : PortState) (old : WatchedView) (new : ViewTask) (is : IsWatching
   incomplete = is.complete ∙ open_
 
   lost : HasPolled s t old.task.walk false → (has_row old.task ≡ true → HasNews t old.task.walk ⊎ (is_ended new ≡ true)) → IsLost s t old (with_rows old.rows)
-  lost polled cause = record { ready = ready; polled = polled; rows = refl; sound = rw same_view still_sound; cause = cause }
+  lost polled cause = record { ready = ready; same = same; polled = polled; rows = refl; sound = rw same_view still_sound; cause = cause }
 
   module _ (works : is_failed new ≡ false) where
     -- ---- a row

@@ -5,7 +5,7 @@ use Rattle.sig_hist.specs.Ports.{PortState}
 use Rattle.sig_rows.specs.SoundRows.{AreSound, Seen, are_complete, last_at, nothing_seen, seen_of, tags_of}
 use Rattle.sig_rows.specs.declared.rows.Body.TheVariants.{Ended}
 use Rattle.sig_rows.specs.declared.rows.Row.{Row}
-use Rattle.sig_view.specs.Polling.{IsPoll}
+use Rattle.sig_view.specs.Polling.{IsPoll, IsSameTask}
 use Rattle.sig_view.specs.Tasks.{IsNew, IsReady, has_row, is_ended, is_failed, positions_of, sources_of, tags_at, view_of}
 use Rattle.sig_view.specs.declared.task.Polled.{Polled}
 use Rattle.sig_view.specs.declared.task.Polled.TheVariants as polled
@@ -45,6 +45,7 @@ pub record IsWatching (s : PortState) (view : WatchedView) : Type 0 where
 -- shown more than the leaf had passed, or a view that has ended, whose last row takes memory too
 pub record IsLost (s t : PortState) (old new : WatchedView) : Type 0 where
   pub ready : IsReady t new.task
+  pub same : IsSameTask old.task new.task
   pub polled : HasPolled s t old.task.walk false
   pub rows : new.rows ≡ old.rows
   pub sound : AreSound (view_of new.task) (sources_of t new.task) new.rows

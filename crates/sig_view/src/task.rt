@@ -66,6 +66,10 @@ pub enum Stage {
 
 /// A view that is polled: each poll takes it along the histories of its leaves' sources, as far as a port shows them,
 /// and answers by what it gives on the way.
+///
+/// Of those at least 3 of the vector 4, 1 the first poll gives a row at 0 that replaces all by 4, and the next one answers `Pending`. After a
+/// push of 7 a poll gives a row at 1 that pushes 7, after the leave of the only writer one at 2 without a difference, and the poll after that
+/// answers `Ended`.
 #[derive(Drop)]
 pub struct ViewTask {
     alloc: Global,

@@ -3,7 +3,7 @@ ghost use Rattle.std.specs.Prelude.{IfOk, OnOk};
 ghost use Rattle.trials.specs.Stages.{IsStage};
 
 use crate::stages::Stage;
-use sig_diff::{NoMemory, TryCopy};
+use sig_diff::{Items, NoMemory, TryCopy};
 use sig_expr::{Shown, View};
 use sig_report::{Report, SourceReports, ViewReport, ViewReports, report_text};
 use sig_script::{Event, Script, ViewDef, ViewKind, plans, read_script};
@@ -49,35 +49,35 @@ fn play<R: Wait>(
         return Err(AllocError);
     }
     let plans = plans(alloc, script)?;
-    let stage = Stage::new(alloc, plans, writers as u32, view)?;
-    played(rt, alloc, stage, script, number)
+    let mut views = Items::new(alloc);
+    views.push(view.copy()?)?;
+    let stage = Stage::new(alloc, plans, writers as u32, views.as_slice())?;
+    played(rt, stage, script, number)
 }
 
 /// The rows of a stage's view, once all is played.
 fn played<R: Wait>(
     rt: &R,
-    alloc: Global,
     mut stage: Stage,
     script: &Script,
     number: usize,
 ) -> Result<Rows, NoMemory>
     requires { IsStage stage }
 {
-    match play_out(rt, alloc, &mut stage, script, number) {
-        Ok(()) => Ok(rows_of(stage)),
+    match play_out(rt, &mut stage, script, number) {
+        Ok(()) => rows_of(stage),
         Err(error) => Err(error),
     }
 }
 
-fn rows_of(stage: Stage) -> Rows {
-    let Stage { view, .. } = stage;
-    view.into_rows()
+fn rows_of(stage: Stage) -> Result<Rows, NoMemory> {
+    let Stage { exec, .. } = stage;
+    exec.rows().pop().ok_or(AllocError)
 }
 
 /// The schedule's events, then what each writer has left, then polls to the view's end.
 fn play_out<R: Wait>(
     rt: &R,
-    alloc: Global,
     stage: &mut Stage,
     script: &Script,
     number: usize,
@@ -85,16 +85,15 @@ fn play_out<R: Wait>(
     requires { IsStage stage.old }
 {
     'events: for event in script.schedule.as_slice() {
-        take(rt, alloc, stage, script, number, *event)?;
+        take(rt, stage, script, number, *event)?;
     }
     write_out(rt, stage, script);
-    poll_out(alloc, stage)
+    poll_out(rt, stage)
 }
 
 /// One event of the schedule. Polls of other views are none of this hub's.
 fn take<R: Wait>(
     rt: &R,
-    alloc: Global,
     stage: &mut Stage,
     script: &Script,
     number: usize,
@@ -105,7 +104,7 @@ fn take<R: Wait>(
 {
     match event {
         Event::Writer(writer) => write(rt, stage, script, writer),
-        Event::View(view) if view == number => stage.poll(alloc)?,
+        Event::View(view) if view == number => poll(rt, stage)?,
         Event::View(_) | Event::Share(_) => {}
     }
     Ok(())
@@ -148,12 +147,23 @@ fn write_often<R: Wait>(rt: &R, stage: &mut Stage, script: &Script, writer: usiz
 
 /// Polls to the end: the first one of these goes to the end of the closed histories, and the second ends the view. Before them comes one that
 /// waits, where the view has a token yet.
-fn poll_out(alloc: Global, stage: &mut Stage) -> Result<(), NoMemory>
+fn poll_out<R: Wait>(rt: &R, stage: &mut Stage) -> Result<(), NoMemory>
     requires { IsStage stage.old }
     ensures { OnOk result (IsStage stage.new) }
 {
     'polls: for _poll in 0..3 {
-        stage.poll(alloc)?;
+        poll(rt, stage)?;
+    }
+    Ok(())
+}
+
+/// One poll of the view, where its task has a token or was told.
+fn poll<R: Wait>(rt: &R, stage: &mut Stage) -> Result<(), NoMemory>
+    requires { IsStage stage.old }
+    ensures { OnOk result (IsStage stage.new) }
+{
+    if stage.poll(rt).short {
+        return Err(AllocError);
     }
     Ok(())
 }

@@ -1,16 +1,16 @@
-ghost use Rattle.std.specs.Prelude.{◌≡◌, ◌<◌, ◌∷◌, [], length, All, IfSome, IfOk, OnOk};
-ghost use Rattle.sig_flag.specs.Machines.{IsTaskOf};
+//! Hubs whose sources are edited and polled by several threads.
+ghost use Rattle.std.specs.Prelude.{◌≡◌, ◌∷◌, [], All, IfSome, IfOk};
+ghost use Rattle.sig_exec.specs.Jobs.{AreJobs};
 ghost use Rattle.sig_hub.specs.Passes.{IsOf};
-ghost use Rattle.trials.specs.Stages.{IsStage, IsWatched, IsWriting};
+ghost use Rattle.trials.specs.Stages.{IsStage, IsWriting};
 
-use crate::stages::{Stage, Writing, collect, edit_if_in, step};
-use crossbeam_utils::Backoff;
+use crate::stages::{Stage, Writing, edit_if_in};
 use sig_diff::{Content, Items, NoMemory, VecDiff};
+use sig_exec::{Exec, JobRows, Open};
 use sig_expr::{VecExpr, View};
 use sig_hist::{Allowance, Edit, EditError, Kept, Plans, Reply, SourcePlan};
 use sig_hub::{Closed, FinishError, Hub, Left, Lefts, PollPass, Returned, WriterPass};
-use sig_view::WatchedView;
-use std::alloc::Global;
+use std::alloc::{AllocError, Global};
 use std::sync::Wait;
 use std::test::Fail;
 use std::thread;
@@ -20,7 +20,7 @@ use std::thread::Threads;
 const PUSHES: u32 = 1000;
 
 /// The list of one value.
-fn one<T: Drop>(alloc: Global, value: T) -> Result<Items<T>, NoMemory>
+pub fn one<T: Drop>(alloc: Global, value: T) -> Result<Items<T>, NoMemory>
     ensures { IfOk result (λ list. list ≡ value ∷ []) }
 {
     let mut list = Items::new(alloc);
@@ -29,7 +29,7 @@ fn one<T: Drop>(alloc: Global, value: T) -> Result<Items<T>, NoMemory>
 }
 
 /// The list of two values.
-fn two<T: Drop>(alloc: Global, first: T, second: T) -> Result<Items<T>, NoMemory>
+pub fn two<T: Drop>(alloc: Global, first: T, second: T) -> Result<Items<T>, NoMemory>
     ensures { IfOk result (λ list. list ≡ first ∷ second ∷ []) }
 {
     let mut list = one(alloc, first)?;
@@ -54,7 +54,8 @@ fn vector(alloc: Global, writers: u32, pushes: u32) -> Result<Stage, NoMemory>
         allow,
     };
     let plans: Plans = one(alloc, plan)?;
-    Stage::new(alloc, plans, writers, &View::Vector(VecExpr::Vector(0)))
+    let views = one(alloc, View::Vector(VecExpr::Vector(0)))?;
+    Stage::new(alloc, plans, writers, views.as_slice())
 }
 
 fn push(value: i64) -> Edit {
@@ -62,7 +63,7 @@ fn push(value: i64) -> Edit {
 }
 
 /// The pass of the last writer.
-fn last_writer(hub: &Hub, writers: &mut Vec<Writing>) -> Option<WriterPass>
+pub fn last_writer(hub: &Hub, writers: &mut Vec<Writing>) -> Option<WriterPass>
     requires { All (IsWriting hub.now.machine) writers.old.items }
     ensures pass { IfSome result (IsOf hub.now.machine) }
     ensures others { All (IsWriting hub.now.machine) writers.new.items }
@@ -72,21 +73,14 @@ fn last_writer(hub: &Hub, writers: &mut Vec<Writing>) -> Option<WriterPass>
 }
 
 /// Pushes numbers, and leaves.
-fn push_all<R: Wait>(
-    rt: &R,
-    hub: &Hub,
-    sources: usize,
-    mut pass: WriterPass,
-    pushes: u32,
-) -> Option<Left>
-    requires sources { sources ≡ length hub.now.machine.layout.plans }
-    requires of { IsOf hub.now.machine pass }
+fn push_all<R: Wait>(rt: &R, hub: &Hub, mut pass: WriterPass, pushes: u32) -> Option<Left>
+    requires { IsOf hub.now.machine pass }
     ensures { IfSome result (IsOf hub.now.machine) }
 {
     'pushes: for number in 0..pushes {
         let edit = push(i64::from(number));
         if !matches!(
-            edit_if_in(rt, hub, sources, &mut pass, 0, &edit),
+            edit_if_in(rt, hub, &mut pass, 0, &edit),
             Some(Ok(Reply::Fine))
         ) {
             return None;
@@ -95,43 +89,13 @@ fn push_all<R: Wait>(
     Some(hub.leave(rt, pass))
 }
 
-/// Polls a view whenever its task is told, until it has ended.
-fn follow<R: Wait>(
-    rt: &R,
-    alloc: Global,
-    hub: &Hub,
-    mut pass: PollPass,
-    mut view: WatchedView,
-) -> Option<(PollPass, WatchedView)>
-    requires { IsWatched hub.now pass view }
-    ensures { IfSome result (λ made. IsOf hub.now.machine made.0) }
-{
-    let backoff = Backoff::new();
-    let mut told = None;
-    'polls: for _ in rt.forever() {
-        match step(alloc, hub, &mut pass, &mut view, told) {
-            Ok(back) => told = back,
-            Err(_) => return None,
-        }
-        if view.is_ended() {
-            return Some((pass, view));
-        }
-        if told.is_none() {
-            backoff.snooze();
-        }
-    }
-    unreachable!()
-}
-
 /// The passes of two threads that have pushed so often.
 fn push_twice<R: Threads + Wait + Sync>(
     rt: &R,
     hub: &Hub,
-    sources: usize,
     first: WriterPass,
     second: WriterPass,
 ) -> (Option<Left>, Option<Left>)
-    requires sources { sources ≡ length hub.now.machine.layout.plans }
     requires first { IsOf hub.now.machine first }
     requires second { IsOf hub.now.machine second }
     ensures first { IfSome result.0 (IsOf hub.now.machine) }
@@ -140,42 +104,55 @@ fn push_twice<R: Threads + Wait + Sync>(
     thread::join(
         rt,
         move ||
-            requires { IsOf hub.now.machine first × (sources ≡ length hub.now.machine.layout.plans) }
+            requires { IsOf hub.now.machine first }
             ensures { IfSome result (IsOf hub.entry.now.machine) }
-        { push_all(rt, hub, sources, first, PUSHES) },
+        { push_all(rt, hub, first, PUSHES) },
         move ||
-            requires { IsOf hub.now.machine second × (sources ≡ length hub.now.machine.layout.plans) }
+            requires { IsOf hub.now.machine second }
             ensures { IfSome result (IsOf hub.entry.now.machine) }
-        { push_all(rt, hub, sources, second, PUSHES) },
+        { push_all(rt, hub, second, PUSHES) },
     )
+}
+
+/// Polls until all views have ended. The rows of each, if no memory was wanting.
+pub fn follow<R: Wait>(
+    rt: &R,
+    hub: &Hub,
+    mut pass: PollPass,
+    mut exec: Exec,
+) -> Option<(PollPass, JobRows)>
+    requires { AreJobs hub.now pass exec }
+    ensures { IfSome result (λ made. IsOf hub.now.machine made.0) }
+{
+    if exec.run(rt, hub, &mut pass, &Open) {
+        return None;
+    }
+    Some((pass, exec.rows()))
 }
 
 /// A view that is followed on this thread while another one pushes.
 fn push_and_follow<R: Threads + Wait + Sync>(
     rt: &R,
-    alloc: Global,
     hub: &Hub,
-    sources: usize,
     writer: WriterPass,
     pass: PollPass,
-    view: WatchedView,
-) -> (Option<Left>, Option<(PollPass, WatchedView)>)
-    requires sources { sources ≡ length hub.now.machine.layout.plans }
+    exec: Exec,
+) -> (Option<Left>, Option<(PollPass, JobRows)>)
     requires writer { IsOf hub.now.machine writer }
-    requires watched { IsWatched hub.now pass view }
+    requires jobs { AreJobs hub.now pass exec }
     ensures left { IfSome result.0 (IsOf hub.now.machine) }
     ensures pass { IfSome result.1 (λ made. IsOf hub.now.machine made.0) }
 {
     thread::join(
         rt,
         move ||
-            requires { IsOf hub.now.machine writer × (sources ≡ length hub.now.machine.layout.plans) }
+            requires { IsOf hub.now.machine writer }
             ensures { IfSome result (IsOf hub.entry.now.machine) }
-        { push_all(rt, hub, sources, writer, PUSHES) },
+        { push_all(rt, hub, writer, PUSHES) },
         move ||
-            requires { IsWatched hub.now pass view }
+            requires { AreJobs hub.now pass exec }
             ensures { IfSome result (λ made. IsOf hub.entry.now.machine made.0) }
-        { follow(rt, alloc, hub, pass, view) },
+        { follow(rt, hub, pass, exec) },
     )
 }
 
@@ -194,36 +171,31 @@ fn finished(alloc: Global, hub: Hub, left: Lefts, pass: PollPass) -> Option<Clos
 fn both_pushed<R: Threads + Wait + Sync>(
     rt: &R,
     hub: &Hub,
-    sources: usize,
     mut writers: Vec<Writing>,
 ) -> Option<(Left, Left)>
-    requires sources { sources ≡ length hub.now.machine.layout.plans }
-    requires writers { All (IsWriting hub.now.machine) writers.items }
+    requires { All (IsWriting hub.now.machine) writers.items }
     ensures first { IfSome result (λ left. IsOf hub.now.machine left.0) }
     ensures second { IfSome result (λ left. IsOf hub.now.machine left.1) }
 {
     let second = last_writer(hub, &mut writers)?;
     let first = last_writer(hub, &mut writers)?;
-    let (first, second) = push_twice(rt, hub, sources, first, second);
+    let (first, second) = push_twice(rt, hub, first, second);
     Some((first?, second?))
 }
 
-/// The hub of a stage, how many sources it has, its writers and its poller's pass.
-fn parts_of(stage: Stage) -> (Hub, usize, Vec<Writing>, PollPass)
+/// The hub of a stage, its writers and its poller's pass.
+fn parts_of(stage: Stage) -> (Hub, Vec<Writing>, PollPass)
     requires { IsStage stage }
-    ensures sources { result.1 ≡ length result.0.machine.layout.plans }
-    ensures writers { All (IsWriting result.0.machine) result.2.items }
-    ensures pass { IsOf result.0.machine result.3 }
-    ensures task { IsTaskOf result.0.machine.layout 0 result.3.account.number }
+    ensures writers { All (IsWriting result.0.machine) result.1.items }
+    ensures pass { IsOf result.0.machine result.2 }
 {
     let Stage {
         hub,
-        sources,
         writers,
         pass,
         ..
     } = stage;
-    (hub, sources, writers, pass)
+    (hub, writers, pass)
 }
 
 /// Two threads that push into one vector.
@@ -231,22 +203,20 @@ fn two_threads<R: Threads + Wait + Sync>(
     rt: &R,
     alloc: Global,
     hub: Hub,
-    sources: usize,
     writers: Vec<Writing>,
     pass: PollPass,
 ) -> Option<Closed>
-    requires sources { sources ≡ length hub.machine.layout.plans }
     requires writers { All (IsWriting hub.machine) writers.items }
     requires pass { IsOf hub.machine pass }
 {
-    match both_pushed(rt, &hub, sources, writers) {
+    match both_pushed(rt, &hub, writers) {
         Some((first, second)) => finished_by_both(alloc, hub, first, second, pass),
         None => None,
     }
 }
 
 /// A hub that is finished with the passes of both its writers.
-fn finished_by_both(
+pub fn finished_by_both(
     alloc: Global,
     hub: Hub,
     first: Left,
@@ -263,118 +233,93 @@ fn finished_by_both(
     }
 }
 
-/// A view that waits, and is told by another thread: the hub and the view at their ends.
+/// A view that waits, and is told by another thread: the hub at its end, and the view's rows.
 fn wait_and_follow<R: Threads + Wait + Sync>(
     rt: &R,
     alloc: Global,
     stage: Stage,
-) -> Option<(Closed, WatchedView)>
+) -> Option<(Closed, JobRows)>
     requires { IsStage stage }
 {
     let Stage {
         hub,
-        sources,
         mut writers,
         pass,
-        view,
-        ..
+        exec,
     } = stage;
     let writer = last_writer(&hub, &mut writers)?;
-    let (left, followed) = push_and_follow(rt, alloc, &hub, sources, writer, pass, view);
-    let (pass, view) = followed?;
+    let (left, followed) = push_and_follow(rt, &hub, writer, pass, exec);
+    let (pass, rows) = followed?;
     let left = one(alloc, left?).ok()?;
     let closed = finished(alloc, hub, left, pass)?;
-    Some((closed, view))
+    Some((closed, rows))
 }
 
-/// A hub of one vector whose view has its first row, and then has waited or not.
-fn polled_twice(alloc: Global, pushes: u32) -> Result<Stage, NoMemory>
+/// A hub of one vector whose view has its first row, and then waits.
+fn polled_twice<R: Wait>(rt: &R, alloc: Global, pushes: u32) -> Result<Stage, NoMemory>
     ensures { IfOk result IsStage }
 {
     let mut stage = vector(alloc, 1, pushes)?;
-    match poll_twice(alloc, &mut stage) {
-        Ok(()) => Ok(stage),
-        Err(error) => Err(error),
+    if poll_twice(rt, &mut stage) {
+        return Ok(stage);
     }
+    Err(AllocError)
 }
 
-fn poll_twice(alloc: Global, stage: &mut Stage) -> Result<(), NoMemory>
+/// Whether the first of two turns gives a row and the second none.
+fn poll_twice<R: Wait>(rt: &R, stage: &mut Stage) -> bool
     requires { IsStage stage.old }
-    ensures { OnOk result (IsStage stage.new) }
+    ensures { IsStage stage.new }
 {
-    stage.poll(alloc)?;
-    stage.poll(alloc)
+    stage.poll(rt).rows == 1 && stage.poll(rt).rows == 0
+}
+
+/// Whether a task that waits is told by an edit and not before it, and a second edit is refused; and then by the leave.
+fn tells_of_one_edit<R: Wait>(
+    rt: &R,
+    hub: &Hub,
+    mut writer: WriterPass,
+    pass: &mut PollPass,
+    exec: &mut Exec,
+) -> (bool, Left)
+    requires writer { IsOf hub.now.machine writer }
+    requires jobs { AreJobs hub.now pass.old exec.old }
+    ensures left { IsOf hub.now.machine result.1 }
+    ensures jobs { AreJobs hub.now pass.new exec.new }
+{
+    let untold = exec.turn(rt, hub, pass, &Open).rows == 0;
+    let made = edit_if_in(rt, hub, &mut writer, 0, &push(4));
+    let told = exec.turn(rt, hub, pass, &Open).rows == 1;
+    let spent = edit_if_in(rt, hub, &mut writer, 0, &push(5));
+    let left = hub.leave(rt, writer);
+    let is_as_told = untold
+        && told
+        && matches!(made, Some(Ok(Reply::Fine)))
+        && matches!(spent, Some(Err(EditError::Spent { made: 1 })))
+        && !exec.run(rt, hub, pass, &Open);
+    (is_as_told, left)
 }
 
 /// One edit, one leave and what is told of them. Whether all answers are as they are to be.
 fn told_once<R: Wait>(rt: &R, alloc: Global) -> Result<bool, NoMemory> {
-    let stage = polled_twice(alloc, 1)?;
-    let waits = stage.told.is_none() && stage.view.rows.len() == 1;
-    let (hub, sources, writers, pass) = parts_of(stage);
-    Ok(edit_once(rt, alloc, hub, sources, writers, pass) && waits)
+    let stage = polled_twice(rt, alloc, 1)?;
+    edit_and_finish(rt, alloc, stage)
 }
 
-/// The edit, the leave and the end.
-fn edit_once<R: Wait>(
-    rt: &R,
-    alloc: Global,
-    hub: Hub,
-    sources: usize,
-    mut writers: Vec<Writing>,
-    pass: PollPass,
-) -> bool
-    requires sources { sources ≡ length hub.machine.layout.plans }
-    requires writers { All (IsWriting hub.machine) writers.items }
-    requires pass { IsOf hub.machine pass }
-    requires task { IsTaskOf hub.machine.layout 0 pass.account.number }
+fn edit_and_finish<R: Wait>(rt: &R, alloc: Global, stage: Stage) -> Result<bool, NoMemory>
+    requires { IsStage stage }
 {
-    match last_writer(&hub, &mut writers) {
-        Some(writer) => edit_and_finish(rt, alloc, hub, sources, writer, pass),
-        None => false,
-    }
-}
-
-fn edit_and_finish<R: Wait>(
-    rt: &R,
-    alloc: Global,
-    hub: Hub,
-    sources: usize,
-    mut writer: WriterPass,
-    mut pass: PollPass,
-) -> bool
-    requires sources { sources ≡ length hub.machine.layout.plans }
-    requires writer { IsOf hub.machine writer }
-    requires pass { IsOf hub.machine pass }
-    requires task { IsTaskOf hub.machine.layout 0 pass.account.number }
-{
-    let tells = tells_of_one_edit(rt, &hub, sources, &mut writer, &mut pass);
-    let left = hub.leave(rt, writer);
-    matches!(is_finished_late(alloc, hub, left, pass), Ok(true)) && tells
-}
-
-/// Whether a task that waits is told by an edit and not before it, and a second edit is refused.
-fn tells_of_one_edit<R: Wait>(
-    rt: &R,
-    hub: &Hub,
-    sources: usize,
-    writer: &mut WriterPass,
-    pass: &mut PollPass,
-) -> bool
-    requires sources { sources ≡ length hub.now.machine.layout.plans }
-    requires writer { IsOf hub.now.machine writer.old }
-    requires pass { IsOf hub.now.machine pass.old }
-    requires task { IsTaskOf hub.now.machine.layout 0 pass.old.account.number }
-    ensures writer { IsOf hub.now.machine writer.new }
-    ensures pass { IsOf hub.now.machine pass.new }
-{
-    let untold = collect(hub, pass).is_none();
-    let made = edit_if_in(rt, hub, sources, writer, 0, &push(4));
-    let told = collect(hub, pass).is_some();
-    let spent = edit_if_in(rt, hub, sources, writer, 0, &push(5));
-    untold
-        && told
-        && matches!(made, Some(Ok(Reply::Fine)))
-        && matches!(spent, Some(Err(EditError::Spent { made: 1 })))
+    let Stage {
+        hub,
+        mut writers,
+        mut pass,
+        mut exec,
+    } = stage;
+    let Some(writer) = last_writer(&hub, &mut writers) else {
+        return Ok(false);
+    };
+    let (is_as_told, left) = tells_of_one_edit(rt, &hub, writer, &mut pass, &mut exec);
+    Ok(is_finished_late(alloc, hub, left, pass)? && is_as_told)
 }
 
 /// Whether a hub isn't finished while a writer's pass is missing, and then is, with two entries and nobody to tell.
@@ -418,8 +363,8 @@ fn has_entries(closed: &Closed, count: u32) -> bool {
 #[test]
 fn two_threads_push_into_one_source(rt: HostRuntime) -> Result<(), Fail> {
     let stage = vector(rt.alloc(), 2, PUSHES)?;
-    let (hub, sources, writers, pass) = parts_of(stage);
-    let closed = two_threads(&rt, rt.alloc(), hub, sources, writers, pass);
+    let (hub, writers, pass) = parts_of(stage);
+    let closed = two_threads(&rt, rt.alloc(), hub, writers, pass);
     let closed = closed.expect(&rt, "both threads have pushed");
     assert!(rt; has_entries(&closed, 2 * PUSHES + 2));
     Ok(())
@@ -427,12 +372,11 @@ fn two_threads_push_into_one_source(rt: HostRuntime) -> Result<(), Fail> {
 
 #[test]
 fn a_view_that_waits_is_told_by_another_thread(rt: HostRuntime) -> Result<(), Fail> {
-    let stage = polled_twice(rt.alloc(), PUSHES)?;
-    assert!(rt; stage.told.is_none());
+    let stage = polled_twice(&rt, rt.alloc(), PUSHES)?;
     let followed = wait_and_follow(&rt, rt.alloc(), stage);
-    let (closed, view) = followed.expect(&rt, "the view has ended");
+    let (closed, rows) = followed.expect(&rt, "the view has ended");
     assert!(rt; has_entries(&closed, PUSHES + 1));
-    assert!(rt; view.is_ended() && view.rows.len() > 2);
+    assert!(rt; matches!(rows.as_slice(), [rows] if rows.len() > 2));
     Ok(())
 }
 

@@ -10,6 +10,8 @@ mod stages;
 #[cfg(test)]
 mod tests;
 mod texts;
+#[cfg(test)]
+mod three_views;
 
 use crate::hub_plays::gives_rows;
 use crate::running::run;

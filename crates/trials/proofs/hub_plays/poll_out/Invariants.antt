@@ -2,4 +2,4 @@ use Rattle.trials.specs.Stages.{IsStage}
 use Rattle.trials.proofs.hub_plays.poll_out.Given as goal
 
 abbrev pub invariant-polls : goal.invariant-polls
-invariant-polls l = IsStage l.stage
+invariant-polls g l = IsStage l.stage

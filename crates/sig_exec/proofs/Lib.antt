@@ -1,0 +1,5 @@
+pub mod Moments
+pub mod Planned
+pub mod Polls
+pub mod Starts
+pub mod Works
