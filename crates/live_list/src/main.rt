@@ -76,6 +76,9 @@ fn follow<R: Wait + Eprint>(
     'turns: for _ in rt.forever() {
         let turned = exec.turn(rt, hub, &mut pass, &Open);
         seen = apply_rows(rt, alloc, &mut list, exec.rows_so_far(0), seen)?;
+        if turned.short {
+            return Err(AllocError);
+        }
         if turned.live == 0 {
             break 'turns;
         }

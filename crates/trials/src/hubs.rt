@@ -10,6 +10,7 @@ use sig_exec::{Exec, JobRows, Open};
 use sig_expr::{VecExpr, View};
 use sig_hist::{Allowance, Edit, EditError, Kept, Plans, Reply, SourcePlan};
 use sig_hub::{Closed, FinishError, Hub, Left, Lefts, PollPass, Returned, WriterPass};
+use sig_view::{Body, Row};
 use std::alloc::{AllocError, Global};
 use std::sync::Wait;
 use std::test::Fail;
@@ -360,6 +361,42 @@ fn has_entries(closed: &Closed, count: u32) -> bool {
     }
 }
 
+/// Whether, after an edit and the leave, the executor says that its job is lost exactly where the rows have no end.
+fn is_lost_or_ends<R: Wait>(rt: &R, stage: Stage) -> bool
+    requires { IsStage stage }
+{
+    let Stage {
+        hub,
+        mut writers,
+        mut pass,
+        mut exec,
+    } = stage;
+    let Some(mut writer) = last_writer(&hub, &mut writers) else {
+        return false;
+    };
+    exec.turn(rt, &hub, &mut pass, &Open);
+    edit_if_in(rt, &hub, &mut writer, 0, &push(4));
+    drop(hub.leave(rt, writer));
+    let short = exec.run(rt, &hub, &mut pass, &Open);
+    short != ends(&exec.rows())
+}
+
+fn ends(rows: &JobRows) -> bool {
+    match rows.as_slice() {
+        [rows] => matches!(
+            rows.as_slice(),
+            [
+                ..,
+                Row {
+                    body: Body::Ended,
+                    ..
+                }
+            ]
+        ),
+        _ => false,
+    }
+}
+
 #[test]
 fn two_threads_push_into_one_source(rt: HostRuntime) -> Result<(), Fail> {
     let stage = vector(rt.alloc(), 2, PUSHES)?;
@@ -383,5 +420,12 @@ fn a_view_that_waits_is_told_by_another_thread(rt: HostRuntime) -> Result<(), Fa
 #[test]
 fn a_task_is_told_once_of_an_edit(rt: HostRuntime) -> Result<(), Fail> {
     assert!(rt; told_once(&rt, rt.alloc())?);
+    Ok(())
+}
+
+#[test]
+fn a_job_is_lost_exactly_where_its_rows_have_no_end(rt: HostRuntime) -> Result<(), Fail> {
+    let stage = vector(rt.alloc(), 1, 1)?;
+    assert!(rt; is_lost_or_ends(&rt, stage));
     Ok(())
 }
